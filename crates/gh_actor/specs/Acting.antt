@@ -1,16 +1,9 @@
 -- An actor with the layout of its heap, as a machine at a seat of a table.
 use Rattle.std.specs.Prelude.{◌≡◌, ℕ, Bool, Option}
-use Rattle.gh_base.specs.declared.cell.Ask.{Ask}
-use Rattle.gh_base.specs.declared.layout.Layout.{Layout}
-use Rattle.gh_base.specs.declared.operation.Op.{Op}
-use Rattle.gh_base.specs.declared.value.Answer.{Answer}
+use Rattle.gh_actor.specs.Vocabulary.{Actor, Answer, Ask, HeapActor, Layout, Leads, Marks, Op, Runs, SoundMutating}
 use Rattle.gh_base.specs.Routines.{Listing}
 use Rattle.gh_coord.specs.Sound.{SoundCoordinating}
-use Rattle.gh_mutator.specs.Sound.{SoundMutating}
 use Rattle.gh_worker.specs.Sound.{SoundWorking}
-use Rattle.gh_lists.specs.declared.handshake.Actor.{Actor}
-use Rattle.gh_actor.specs.declared.actor.HeapActor.{HeapActor}
-use Rattle.gh_actor.specs.declared.actor.HeapActor.TheVariants.{Leads, Marks, Runs}
 use Rattle.gh_actor.specs.Machines as actor
 use Rattle.gh_actor.specs.Machines.{HasShapes, machine_actor, machine_marks, MachineMayBegin}
 use Rattle.gh_actor.specs.Plans.{Planned}

@@ -1,17 +1,12 @@
 -- The same of an actor with the layout of its heap.
-use Rattle.std.specs.Prelude.{◌≡◌, ◌↔◌, ℕ, false, true, IsNone}
-use Rattle.gh_base.specs.declared.layout.Layout.{Layout}
-use Rattle.gh_base.specs.declared.operation.Op.{Op}
-use Rattle.gh_base.specs.Blind.{is_store}
-use Rattle.gh_actor.specs.declared.actor.HeapActor.{HeapActor}
-use Rattle.gh_actor.specs.declared.actor.HeapActor.TheVariants.{Leads, Marks, Runs}
+use Rattle.std.proofs.Common.{ap, sym, refl, ◌∙◌, ◌≡◌, ◌↔◌, ℕ, false, true, IsNone}
+use Rattle.std.proofs.Props.{props}
+use Rattle.gh_actor.specs.Vocabulary.{HeapActor, is_store, Layout, Leads, Marks, Op, Runs}
 use Rattle.gh_actor.specs.Acting.{Acting, acts_as, asks, begins, Belongs, BelongsTo, gives, goes, is_busy, layout_of, MayBegin}
 use Rattle.gh_actor.specs.Machines as actor
 use Rattle.gh_actor.specs.Machines.{machine_actor}
 use Rattle.gh_actor.specs.MachinesAct as proved
 use Rattle.gh_actor.specs.Plans.{Planned, setting}
-use Rattle.std.proofs.Common.{ap, sym, refl, ◌∙◌}
-use Rattle.std.proofs.Props.{props}
 
 once : (p : Planned) (l : Layout) (x : HeapActor) → IsProp (BelongsTo p l x)
 once p l (Runs m) = Prim.hlevel props

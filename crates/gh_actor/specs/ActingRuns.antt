@@ -1,11 +1,8 @@
 -- What a machine has run its actor has run, in the layout of the heap.
-use Rattle.std.specs.Prelude.{◌≡◌, ℕ, List, [], ◌∷◌, Option}
+use Rattle.std.proofs.Common.{ap, refl, subst, sym, ◌∙◌, ◌++◌, ◌≡◌, ℕ, List, [], ◌∷◌, Option}
+use Rattle.gh_actor.specs.Vocabulary.{Answer, Ask, Layout, Op}
 use Rattle.atomic_table.specs.Table.{Me}
-use Rattle.gh_base.specs.declared.cell.Ask.{Ask}
-use Rattle.gh_base.specs.declared.layout.Layout.{Layout}
 use Rattle.gh_base.specs.declared.machine.Entry.{Entry}
-use Rattle.gh_base.specs.declared.operation.Op.{Op}
-use Rattle.gh_base.specs.declared.value.Answer.{Answer}
 use Rattle.gh_table.specs.declared.plan.View.{View}
 use Rattle.gh_table.specs.Runs.{begun_next, entries_made, Gave, machine_after, Ran}
 use Rattle.gh_table.specs.Views.{entry}
@@ -13,7 +10,6 @@ use Rattle.gh_actor.specs.Acting as acting
 use Rattle.gh_actor.specs.Acting.{Acting}
 use Rattle.gh_actor.specs.Machines.{asks, gives, goes}
 use Rattle.gh_actor.specs.Plans.{Planned}
-use Rattle.std.proofs.Common.{ap, refl, subst, sym, ◌∙◌, ◌++◌}
 
 module _ (x : Acting) where
   pub after : (founds : List ℕ) → machine_after acting.goes x founds ≡ record x { actor = machine_after (goes x.layout) x.actor founds }

@@ -1,10 +1,6 @@
 -- How a handle counts what is begun.
 use Rattle.std.specs.Prelude.{◌≡◌, ℕ, ◌-◌, ◌<◌, ◌≤◌, Bool, true, false, List, length, slice_get, slice_index_or, slice_set, sum_by, Some}
-use Rattle.gh_base.specs.declared.operation.Op.{Op}
-use Rattle.gh_base.specs.declared.operation.Op.TheVariants as op
-use Rattle.gh_mutator.specs.Sound.{most_objects}
-use Rattle.gh_script.specs.Program.{Program}
-use Rattle.gh_world.specs.Wishes.{wishes_of}
+use Rattle.gh_actor.specs.Vocabulary.{most_objects, Op, Program, wishes_of}
 
 -- the counts before anything is begun
 pub record CountsFirst (p : Program) (procs : ℕ) (left : List ℕ) (over : List Bool) (gone : Bool) : Type 0 where
@@ -22,21 +18,21 @@ HasOneAt left g = (g < length left) × (1 ≤ slice_index_or left g 0)
 
 -- the operation can be counted
 abbrev pub MayCount : List ℕ → List Bool → Op → Type 0
-MayCount left over (op.New g d t) = HasOneAt left g
-MayCount left over (op.Gc g) = HasOneAt left g
-MayCount left over (op.End g) = g < length over
+MayCount left over (Op.New g d t) = HasOneAt left g
+MayCount left over (Op.Gc g) = HasOneAt left g
+MayCount left over (Op.End g) = g < length over
 MayCount left over _ = Unit {0}
 
 -- the counts once it is begun
 abbrev pub left_after : List ℕ → Op → List ℕ
-left_after left (op.New g d t) = slice_set left g (slice_index_or left g 0 - 1)
-left_after left (op.Gc g) = slice_set left g (slice_index_or left g 0 - 1)
+left_after left (Op.New g d t) = slice_set left g (slice_index_or left g 0 - 1)
+left_after left (Op.Gc g) = slice_set left g (slice_index_or left g 0 - 1)
 left_after left _ = left
 
 abbrev pub over_after : List Bool → Op → List Bool
-over_after over (op.End g) = slice_set over g true
+over_after over (Op.End g) = slice_set over g true
 over_after over _ = over
 
 abbrev pub gone_after : Bool → Op → Bool
-gone_after gone op.Leave = true
+gone_after gone Op.Leave = true
 gone_after gone _ = gone

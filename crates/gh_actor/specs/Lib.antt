@@ -5,3 +5,4 @@ pub mod Counting
 pub mod Machines
 pub mod MachinesAct
 pub mod Plans
+pub mod Vocabulary

@@ -1,21 +1,12 @@
 -- An actor of a heap, whichever it is: what it does, and which it is in lists of steps.
 use Rattle.std.specs.Prelude.{◌≡◌, ℕ, Bool, false, true, nat_lt, if◌then◌else◌, Option, Some, None}
-use Rattle.gh_base.specs.declared.cell.Ask.{Ask}
-use Rattle.gh_base.specs.declared.layout.Layout.{Layout}
-use Rattle.gh_base.specs.declared.operation.Op.{Op}
-use Rattle.gh_base.specs.declared.value.Answer.{Answer}
+use Rattle.gh_actor.specs.Vocabulary.{Actor, Answer, Ask, has_names, has_room, HeapActor, Layout, Leads, Marks, most_cycles, Op, Runs, SoundOp}
 use Rattle.gh_coord.specs.Listing as coord
 use Rattle.gh_coord.specs.Stopping.{acks_of}
 use Rattle.gh_mutator.specs.Mutating as mutating
 use Rattle.gh_mutator.specs.Mutating.{Mutating}
 use Rattle.gh_mutator.specs.Serving.{has_left_at}
-use Rattle.gh_mutator.specs.Sound.{has_names, has_room, SoundOp}
 use Rattle.gh_worker.specs.Listing as worker
-use Rattle.gh_lists.specs.declared.handshake.Actor.{Actor}
-use Rattle.gh_lists.specs.declared.handshake.Actor.TheVariants as actor
-use Rattle.gh_world.specs.Wishes.{most_cycles}
-use Rattle.gh_actor.specs.declared.actor.HeapActor.{HeapActor}
-use Rattle.gh_actor.specs.declared.actor.HeapActor.TheVariants.{Leads, Marks, Runs}
 use Rattle.gh_actor.specs.Plans.{Planned}
 
 -- ---- its steps
@@ -85,9 +76,9 @@ IsOther (Marks w) = Unit {0}
 IsOther (Leads c) = Unit {0}
 
 abbrev pub machine_actor : HeapActor → Actor
-machine_actor (Runs m) = actor.Runs m.processor
-machine_actor (Marks w) = actor.Marks w
-machine_actor (Leads c) = actor.Leads c
+machine_actor (Runs m) = Actor.Runs m.processor
+machine_actor (Marks w) = Actor.Marks w
+machine_actor (Leads c) = Actor.Leads c
 
 -- a processor has the script's shapes
 abbrev pub HasShapes : Planned → HeapActor → Type 0

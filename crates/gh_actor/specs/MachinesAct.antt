@@ -1,11 +1,7 @@
 -- An actor is what it is in the lists of its heap: it asks for what that asks for, and goes over to what that goes over to. It has given nothing exactly where it asks for a further step.
-use Rattle.std.specs.Prelude.{◌≡◌, ◌↔◌, ℕ, false, true, Option, IsNone}
-use Rattle.gh_base.specs.declared.layout.Layout.{Layout}
-use Rattle.gh_base.specs.declared.operation.Op.{Op}
-use Rattle.gh_base.specs.declared.value.Answer.{Answer}
-use Rattle.gh_base.specs.Blind.{is_store}
+use Rattle.std.proofs.Common.{ap, arith, ◌≡◌, ◌↔◌, ℕ, false, true, Option, IsNone}
+use Rattle.gh_actor.specs.Vocabulary.{Answer, Coordinating, HeapActor, is_store, Layout, Leads, Marks, Op, Runs}
 use Rattle.gh_coord.specs.Blind as leads_blindly
-use Rattle.gh_coord.specs.Listing.{Coordinating}
 use Rattle.gh_coord.specs.Listing as leading
 use Rattle.gh_coord.specs.Stays as coord
 use Rattle.gh_mutator_writes.specs.Blind as runs_blindly
@@ -15,11 +11,8 @@ use Rattle.gh_worker.specs.Blind as marks_blindly
 use Rattle.gh_worker.specs.Listing.{Working}
 use Rattle.gh_worker.specs.Listing as working
 use Rattle.gh_worker.specs.Stays as worker
-use Rattle.gh_actor.specs.declared.actor.HeapActor.{HeapActor}
-use Rattle.gh_actor.specs.declared.actor.HeapActor.TheVariants.{Leads, Marks, Runs}
 use Rattle.gh_actor.specs.Machines.{asks, begins, ends_with_answer, ends_with_none, gives, goes, HasShapes, is_busy, machine_actor, MachineMayBegin}
 use Rattle.gh_actor.specs.Plans.{Planned, setting}
-use Rattle.std.proofs.Common.{ap, arith}
 
 pub busy_is : (p : Planned) (x : HeapActor) → (setting p).kind.busy (machine_actor x) ≡ is_busy x
 busy_is p x = grind arith

@@ -1,13 +1,9 @@
 -- What a table is made for: a script, and the layout of its words.
-use Rattle.gh_base.specs.declared.layout.Layout.{Layout}
-use Rattle.gh_base.specs.declared.operation.Op.{Op}
+use Rattle.std.proofs.Common.{arith}
+use Rattle.gh_actor.specs.Vocabulary.{Actor, Layout, Op, opening, Program}
 use Rattle.gh_base.specs.Lists.{Setting}
-use Rattle.gh_coord.specs.Listing.{opening}
-use Rattle.gh_script.specs.Program.{Program}
-use Rattle.gh_lists.specs.declared.handshake.Actor.{Actor}
 use Rattle.gh_lists.specs.declared.handshake.Actor.TheVariants.{Leads}
 use Rattle.gh_world.specs.World.{setting_of}
-use Rattle.std.proofs.Common.{arith}
 
 pub record Planned : Type 0 where
   pub script : Program

@@ -1,23 +1,12 @@
 -- What the search knows lasts, whatever others do. Of the heap and of its routines it is known what their laws say.
 use Rattle.std.proofs.Common.{◌≡◌, ℕ, ◌+◌, ◌*◌, ◌/◌, ◌<◌, ◌≤◌, Bool, true, cond, refl, ap, arith, Option, sym, subst, ◌∙◌}
-use Rattle.gh_base.specs.declared.pack.SpanHead.{SpanHead}
-use Rattle.gh_class.specs.declared.class.SizeClass.TheVariants as size
-use Rattle.gh_base.specs.Rows.{row_bit}
-use Rattle.gh_class.specs.declared.class.SizeClass.{SizeClass}
-use Rattle.gh_class.specs.Classes.{pages_of, slot_of, slots_of}
-use Rattle.gh_heap.specs.Spans.{is_own_class, number_of_class, owner_at, owner_in}
-use Rattle.gh_heap.specs.Laws.{EachFactLasts, EachMoveKeepsItsOwn, EachRightFollows, WalksGoOn}
-use Rattle.gh_heap.specs.Moves.{Others}
-use Rattle.gh_heap.specs.Rights.{Arena, Good, View}
+use Rattle.gh_alloc.proofs.Vocabulary.{Arena, At, CachedSpan, Caches, Carve, EachFactLasts, EachMoveKeepsItsOwn, EachRightFollows, End, FactsAt, Finding, FindStage, Good, head_for, is_locked, is_own_class, IsCached, Large, Lasts, NoneLeft, NoRoom, number_of_class, Others, owner_at, owner_in, OwnsLarge, pages_of, Pass, row_bit, Seeks, SizeClass, slot_of, slots_of, Small, Sought, span_at, SpanClass, SpanHead, Unlock, Unswept, View, WalksGoOn}
 use Rattle.gh_cache.specs.Facts as searching
 use Rattle.gh_cache.specs.Listing as slots
 use Rattle.gh_central.specs.GiveFacts as giving
 use Rattle.gh_central.specs.PassFacts as passing
 use Rattle.gh_central.specs.UnsweptFacts as sweeping
 use Rattle.gh_pages.specs.Facts as carving
-use Rattle.gh_alloc.specs.Vocabulary.{SpanClass, Sought, Small, Large, CachedSpan, At, NoRoom, End, FindStage, Pass, Unswept, Carve, Unlock}
-use Rattle.gh_alloc.specs.Find.{Finding, span_at}
-use Rattle.gh_alloc.specs.FindFacts.{Caches, FactsAt, IsCached, Lasts, NoneLeft, OwnsLarge, Seeks, head_for, is_locked}
 
 -- the laws that the search's stand on
 pub record Known : Type 0 where
@@ -52,10 +41,10 @@ cached-lasts z a v w c x g o y = record {
   number : y.span.h.number ≡ v.generation
   number = (g.numbers x.head y.span.h y.span.head).owned (λ none. let is : owner_at v.page x.head ≡ y.span.h.owner = ap owner_in y.span.head in omega (arith, (g.owners a x.head).1 y.span.held, is, none))
 
-  slot : (j : ℕ) (f : SizeClass) → f ≡ size.Small c.class → 1024 * x.head + j * cond (is_own_class f) (1024 * y.span.h.pages) (slot_of (number_of_class f) / 8) ≡ slots.slot_at (span_at c.class x) j
+  slot : (j : ℕ) (f : SizeClass) → f ≡ SizeClass.Small c.class → 1024 * x.head + j * cond (is_own_class f) (1024 * y.span.h.pages) (slot_of (number_of_class f) / 8) ≡ slots.slot_at (span_at c.class x) j
   slot j f e = rw (e) refl
 
-  count : (j : ℕ) (f : SizeClass) → f ≡ size.Small c.class → j < slots_of c.class → j < cond (is_own_class f) 1 (slots_of (number_of_class f))
+  count : (j : ℕ) (f : SizeClass) → f ≡ SizeClass.Small c.class → j < slots_of c.class → j < cond (is_own_class f) 1 (slots_of (number_of_class f))
   count j f e lt = rw (e) lt
 
 caches-last : (z : Arena) (a : ℕ) (v w : View) (wanted : Sought) (cached : Option CachedSpan) → Good z v → Others z a v w → Caches a v wanted cached → Caches a w wanted cached
@@ -84,7 +73,7 @@ large-lasts z a v w f at o x = record {
   head = subst (λ (n : ℕ). x.claim.h ≡ head x.noscan x.pages n) (sym o.generation) x.head;
 } where
   head : Bool → (pages number : ℕ) → SpanHead
-  head noscan pages number = record { class = size.Large; noscan = noscan; pages = pages; owner = a + 1; number = number }
+  head noscan pages number = record { class = SizeClass.Large; noscan = noscan; pages = pages; owner = a + 1; number = number }
 
 stage-lasts : Known → (z : Arena) (a : ℕ) (sure : Bool) (v w : View) (f : Finding) (q : FindStage) → Others z a v w → v.locked a ≡ is_locked q → FactsAt z a sure v f q → FactsAt z a sure w f q
 stage-lasts k z a sure v w f (Pass p) o l x = record { c = x.c; wanted = x.wanted; cached = x.cached; is = x.is; facts = k.pass.lasts z a sure v w p o l x.facts }

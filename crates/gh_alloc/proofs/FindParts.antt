@@ -1,9 +1,7 @@
 -- What the own steps of the search stand on: what a move keeps, numbers and slots, where it begins and where it finds none.
 use Rattle.std.proofs.Common.{◌≡◌, ℕ, ◌+◌, ◌*◌, ◌<◌, ◌≤◌, Bool, true, false, cond, ltb, Option, Some, None, refl, sym, ap, subst, arith, le-leb, ltb-true, ltb-false}
-use Rattle.gh_class.specs.declared.class.SizeClass.TheVariants as size
+use Rattle.gh_alloc.proofs.Vocabulary.{Arena, begin, cached_head, CachedSpan, Caches, End, FactsAt, Finding, FindsNone, FindStage, first_page, Good, is_locked, IsFull, IsUsedUp, Lands, Large, laying, Layout, Lock, May, Move, moved, NoneIsTrue, NoRoom, Opens, own, refuses_at, Right, Row, row_bit, Seeks, Shared, SizeClass, slot_count, slot_size, slot_words_of, Slots, slots_of, Small, Sought, span_at, SpanHead, sweep_generation_at, SweepsHere, Unlock, View, view, with_span, Words}
 use Rattle.gh_cache.specs.Listing as slots
-use Rattle.gh_alloc.specs.FindFacts.{Caches, FactsAt, FindsNone, IsUsedUp, NoneIsTrue, Opens, Seeks, SweepsHere, cached_head, is_locked, laying, own, with_span}
-use Rattle.gh_alloc.proofs.Vocabulary.{Arena, begin, CachedSpan, End, Finding, FindStage, first_page, Good, IsFull, Lands, Large, Layout, Lock, May, Move, moved, NoRoom, refuses_at, Right, Row, row_bit, Shared, slot_count, slot_size, slot_words_of, Slots, slots_of, Small, Sought, span_at, SpanHead, sweep_generation_at, Unlock, View, view, Words}
 use Rattle.gh_alloc.proofs.FindLasts.{Known}
 
 -- What its own steps keep.
@@ -67,7 +65,7 @@ is-own rest p e q f = subst (λ (i : ℕ). rest i ≡ false) (same p q f) e wher
   same p q f = cc
 
 -- of a span that is full the slots are taken
-pub taken-of : (alloc : Row) (h : SpanHead) (p c : ℕ) → h.class ≡ size.Small c → IsFull alloc p h → (j : ℕ) → j < slots_of c → row_bit alloc (1024 * p + j * slot_words_of c) ≡ 1
+pub taken-of : (alloc : Row) (h : SpanHead) (p c : ℕ) → h.class ≡ SizeClass.Small c → IsFull alloc p h → (j : ℕ) → j < slots_of c → row_bit alloc (1024 * p + j * slot_words_of c) ≡ 1
 taken-of alloc h p c e full j few =
     let counted : slot_count h ≡ slots_of c = rw (e) refl in
     let sized : slot_size h ≡ slot_words_of c = rw (e) refl in

@@ -1,24 +1,16 @@
 -- The search's own steps are moves that its rights allow. Of the heap and of its routines it is known what their laws say.
 use Rattle.std.proofs.Common.{◌≡◌, ℕ, ◌+◌, ◌*◌, ◌/◌, ◌<◌, ◌≤◌, Bool, true, false, cond, eqb, ltb, inl, inr, Option, Some, None, refl, sym, ap, subst, ◌∙◌, arith, eqb-true, eq-eqb, ltb-false}
-use Rattle.gh_base.specs.declared.cell.Ask.TheVariants as ask
-use Rattle.gh_base.specs.declared.cell.Cell.TheVariants as cell
-use Rattle.gh_class.specs.declared.class.SizeClass.TheVariants as size
-use Rattle.gh_heap.specs.Moves.{Leaves}
-use Rattle.gh_heap.specs.Spans.{owner_at, owner_in}
+use Rattle.gh_alloc.proofs.Vocabulary.{after_carve, after_pass, after_slots, after_unswept, Again, Arena, Ask, asks, At, begin, behind_for, cached_head, CachedSpan, Caches, Carve, carve_at, CarveStage, Cell, cell_of, Comes, effect, End, Ended, eqb_tells, Facts, FactsAt, Finding, FindsByItsRights, FindStage, first_page, FitsClass, Give, given, given_head, gives, goes, Good, head_for, held, is_locked, IsCached, IsCachedFor, IsSpan, IsUsedUp, KeepsObjects, Lands, Large, laying, LeaveLock, Leaves, Lock, locked_for, looks, LooksAgain, moved, NoneLeft, NoRoom, own, owned_by, owner_at, owner_in, OwnsLarge, OwnStep, pages_of, Pass, pass_at, put, Quiet, refuses_at, Right, searched, Seeks, Shared, SizeClass, Slots, slots_of, SlotStage, Small, Sought, span_at, span_for, SpanClass, SpanHead, spans_for, Steps, still, sweep_at, Sweeping, SweepLeaves, SweepStep, TakeLock, taken_for, Unlock, Unswept, unswept_at, update, View, view, with_span}
 use Rattle.gh_cache.specs.Facts as searching
 use Rattle.gh_cache.specs.Listing as slots
-use Rattle.gh_cache.specs.declared.next_slot.SlotStage.TheVariants as slot_stage
 use Rattle.gh_central.specs.GiveBack as give
 use Rattle.gh_central.specs.PassFacts as passing
 use Rattle.gh_central.specs.SweptPass as pass
-use Rattle.gh_central.specs.Sweeping.{SweepLeaves}
 use Rattle.gh_central.specs.UnsweptFacts as sweeping
 use Rattle.gh_central.specs.UnsweptPass as unswept
-use Rattle.gh_sweep.specs.Listing.{Sweeping}
 use Rattle.gh_pages.specs.Facts as carving
 use Rattle.gh_pages.specs.Listing as carve
-use Rattle.gh_alloc.specs.FindFacts.{Caches, Comes, Facts, FactsAt, FindsByItsRights, IsCached, IsCachedFor, IsUsedUp, LooksAgain, NoneLeft, OwnsLarge, OwnStep, Seeks, SweepStep, carve_at, head_for, cached_head, held, is_locked, laying, looks, own, pass_at, still, unswept_at, with_span}
-use Rattle.gh_alloc.proofs.Vocabulary.{after_carve, after_pass, after_slots, after_unswept, Again, Arena, asks, At, begin, behind_for, CachedSpan, Carve, CarveStage, cell_of, effect, End, Ended, eqb_tells, Finding, FindStage, first_page, FitsClass, Give, given, given_at, given_head, gives, goes, Good, IsSpan, KeepsObjects, Lands, Large, LeaveLock, Lock, locked_for, moved, NoRoom, owned_by, pages_of, Pass, put, Quiet, refuses_at, Right, searched, Shared, Slots, slots_of, Small, Sought, span_at, span_for, SpanClass, SpanHead, spans_for, Steps, sweep_at, TakeLock, taken_for, Unlock, Unswept, update, View, view}
+use Rattle.gh_alloc.specs.Find.{given_at}
 use Rattle.gh_alloc.proofs.FindLasts.{Known, lasts}
 use Rattle.gh_alloc.proofs.FindWithin.{within}
 use Rattle.gh_alloc.proofs.FindParts.{Apart, begins, finds-none, first-is, is-apart, is-own, Kept, lands, none-apart, none-own, opens, OwnApart, Stands, sweeps-here, taken-of}
@@ -73,11 +65,11 @@ module _ (k : Known) (z : Arena) (a : ℕ) (sure : Bool) (s : Shared) (rest : �
   start c x = slots.opening (span_at c.class x)
 
   abbrev next : SpanClass → CachedSpan → Bool → slots.Searching
-  next c x d = record { span = record { head = x.head; class = c.class; cursor = x.cursor + 1 }; stage = cond d slot_stage.Look (slot_stage.Ended None) }
+  next c x d = record { span = record { head = x.head; class = c.class; cursor = x.cursor + 1 }; stage = cond d SlotStage.Look (SlotStage.Ended None) }
 
   -- by the tests that the slot at the cursor is clear and that one stands behind it
   abbrev After : SpanClass → CachedSpan → (b d : Bool) → slots.Searching
-  After c x b d = cond b (slots.at_stage (start c x) (slot_stage.Ended (Some x.cursor))) (next c x d)
+  After c x b d = cond b (slots.at_stage (start c x) (SlotStage.Ended (Some x.cursor))) (next c x d)
 
   abbrev Given : SpanClass → CachedSpan → (b d : Bool) → Option (Option ℕ)
   Given c x b d = slots.given (After c x b d)
@@ -126,16 +118,16 @@ module _ (k : Known) (z : Arena) (a : ℕ) (sure : Bool) (s : Shared) (rest : �
   caches-with w c lock locked y = grind arith
 
   lock-own : (w : Sought) (c : Option CachedSpan) → Good z now → Whose w → Looks Lock → Caches a now w c → Apart rest c → IsUsedUp w c → Right a now false (with_span (cached_head c) rest) None → Step (at w c Lock)
-  lock-own w c good whose calm caches apart used right = go (eqb (s.words cell.Lock) 0) refl where
-    go : (b : Bool) → eqb (s.words cell.Lock) 0 ≡ b → Lands z a s (cond b (put s.words cell.Lock (e + 1)) s.words) (λ t. KeepsObjects now (view t) × (false ≡ true → Leaves now (view t)) × Comes z a sure (view t) rest (given_at (cond b (locked_for (at w c Lock) w c) Lock)) (at w c (cond b (locked_for (at w c Lock) w c) Lock)))
+  lock-own w c good whose calm caches apart used right = go (eqb (s.words Cell.Lock) 0) refl where
+    go : (b : Bool) → eqb (s.words Cell.Lock) 0 ≡ b → Lands z a s (cond b (put s.words Cell.Lock (e + 1)) s.words) (λ t. KeepsObjects now (view t) × (false ≡ true → Leaves now (view t)) × Comes z a sure (view t) rest (given_at (cond b (locked_for (at w c Lock) w c) Lock)) (at w c (cond b (locked_for (at w c Lock) w c) Lock)))
     go true is = record {
       move = TakeLock;
-      may = eqb-true (s.words cell.Lock) 0 is;
-      words_are = ap (λ (m : ℕ). put s.words cell.Lock (m + 1)) (sym whose.seat);
+      may = eqb-true (s.words Cell.Lock) 0 is;
+      words_are = ap (λ (m : ℕ). put s.words Cell.Lock (m + 1)) (sym whose.seat);
       after = ((refl, refl), λ e. absurd (cc), on-then (moved z a s TakeLock) (at w c (locked_for (at w c Lock) w c)) (locked-then w c (moved z a s TakeLock) good refl whose calm (caches-with w c (a + 1) (update s.locked a true) caches) apart used (k.follow z a s false (with_span (cached_head c) rest) None right).taken));
     }
     go false is = record {
-      move = Quiet (ask.Load cell.Lock);
+      move = Quiet (Ask.Load Cell.Lock);
       may = tt;
       words_are = refl;
       after = ((refl, refl), λ e. absurd (cc), (right, facts-at w c Lock s refl whose caches apart (none-own rest) calm used));
@@ -149,10 +141,10 @@ module _ (k : Known) (z : Arena) (a : ℕ) (sure : Bool) (s : Shared) (rest : �
     | inr m ↦ ap (λ (b : Bool). cond b false (cond b true (rest q))) m.0
   ]
 
-  head-is : (h : SpanHead) (c : SpanClass) → h.class ≡ size.Small c.class → h.noscan ≡ c.noscan → h.pages ≡ pages_of c.class → h.number ≡ n → owned_by 0 h ≡ given_head n c
+  head-is : (h : SpanHead) (c : SpanClass) → h.class ≡ SizeClass.Small c.class → h.noscan ≡ c.noscan → h.pages ≡ pages_of c.class → h.number ≡ n → owned_by 0 h ≡ given_head n c
   head-is h c class noscan pages number = rw (class, noscan, pages, number) refl
 
-  small-pages : (h : SpanHead) (c : ℕ) → FitsClass h → h.class ≡ size.Small c → h.pages ≡ pages_of c
+  small-pages : (h : SpanHead) (c : ℕ) → FitsClass h → h.class ≡ SizeClass.Small c → h.pages ≡ pages_of c
   small-pages h c fits class = grind arith
 
   give-own : (c : SpanClass) (x : CachedSpan) → Good z now → Whose (Small c) → IsCached a now c x → rest x.head ≡ false → slots_of c.class ≤ x.cursor → Right a now true (update rest x.head true) None → Step (at (Small c) (Some x) (Give (give.opening x.head (given_head n c))))
@@ -171,7 +163,7 @@ module _ (k : Known) (z : Arena) (a : ℕ) (sure : Bool) (s : Shared) (rest : �
 
   -- A span is taken.
 
-  cached-then : (c : SpanClass) (p : ℕ) (h : SpanHead) (m : FindStage) (t : Shared) → Kept s t → Whose (Small c) → IsSpan z.layout.pages (view t).page p h → h.class ≡ size.Small c.class → h.noscan ≡ c.noscan → Right a (view t) true (update rest p true) None → rest p ≡ false → On t (taken_for z.layout (at (Small c) None m) (Small c) p)
+  cached-then : (c : SpanClass) (p : ℕ) (h : SpanHead) (m : FindStage) (t : Shared) → Kept s t → Whose (Small c) → IsSpan z.layout.pages (view t).page p h → h.class ≡ SizeClass.Small c.class → h.noscan ≡ c.noscan → Right a (view t) true (update rest p true) None → rest p ≡ false → On t (taken_for z.layout (at (Small c) None m) (Small c) p)
   cached-then c p h m t same whose span class noscan right apart = subst (λ (i : ℕ). On t (at (Small c) (Some (record { head = i; cursor = 0 })) (Unlock Again))) (sym first)
       (right, facts-at (Small c) (Some fresh) (Unlock Again) t same whose caches (is-apart rest fresh apart) (none-own rest) (λ is. refl) (record { c = c; k = fresh; for = record { wanted = refl; cached = refl } })) where
         fresh : CachedSpan
@@ -270,7 +262,7 @@ module _ (k : Known) (z : Arena) (a : ℕ) (sure : Bool) (s : Shared) (rest : �
     page-is = omega arith
 
     head : (owner number : ℕ) → SpanHead
-    head owner number = record { class = size.Large; noscan = noscan; pages = pages; owner = owner; number = number }
+    head owner number = record { class = SizeClass.Large; noscan = noscan; pages = pages; owner = owner; number = number }
 
     first : first_page z.layout pages p ≡ p
     first = first-is z.layout pages p fresh.span.within

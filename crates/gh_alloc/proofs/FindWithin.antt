@@ -1,13 +1,8 @@
 -- Each step of the search is on a word that there is: its routines' are, and the span that is given back lies in the arena.
 use Rattle.std.proofs.Common.{ℕ, Bool, Option, refl, sym, subst, arith}
-use Rattle.gh_base.specs.Cells.{InRange}
-use Rattle.gh_base.specs.Steps.{cell_of}
-use Rattle.gh_heap.specs.Rights.{Arena, Good, View}
+use Rattle.gh_alloc.proofs.Vocabulary.{Arena, asks, at_stage, CachedSpan, Caches, Carve, cell_of, Ended, FactsAt, Finding, FindStage, Give, Good, InRange, IsCached, IsCachedFor, Lock, Pass, Seeks, Slots, Small, Sought, span_at, SpanClass, Unlock, Unswept, View, Within}
 use Rattle.gh_cache.specs.Listing as slots
 use Rattle.gh_central.specs.GiveBack as give
-use Rattle.gh_alloc.specs.Vocabulary.{SpanClass, Sought, Small, CachedSpan, FindStage, Slots, Lock, Give, Pass, Unswept, Carve, Unlock, Ended}
-use Rattle.gh_alloc.specs.Find.{Finding, asks, at_stage, span_at}
-use Rattle.gh_alloc.specs.FindFacts.{Caches, FactsAt, IsCached, IsCachedFor, Seeks, Within}
 use Rattle.gh_alloc.proofs.FindLasts.{Known}
 
 module _ (k : Known) (z : Arena) (a : ℕ) (sure : Bool) (v : View) (f : Finding) (good : Good z v) (seeks : Seeks z a v f) (caches : Caches a v f.wanted f.cached) where

@@ -1,20 +1,20 @@
 -- The making's own steps are moves that its rights allow, and what it knows lasts. Of the heap and of its routines it is known what their laws say.
 use Rattle.std.proofs.Common.{◌≡◌, ℕ, ◌+◌, ◌*◌, ◌/◌, ◌%◌, ◌^◌, ◌<◌, Bool, true, false, cond, eqb, ltb, nat_le, inl, inr, Option, Some, None, is_none, refl, sym, ap, subst, ◌∙◌, arith, eq-eqb, ltb-true, ltb-false}
-use Rattle.gh_base.specs.declared.cell.Cell.TheVariants as cell
+use Rattle.gh_alloc.proofs.Vocabulary.{Alloc, Arena, Birth, birth_word, bit, Bits, Cell, cell_of, Claims, Clear, ClearField, Count, EachRightFollows, eqb_tells, filled, Good, GoroutineRuns, InRange, IsFull, landing, LoadTrigger, made, Make, makes_its_object_at, Mark, May, moved, Others, owner_at, owner_in, page_of, placed_at, PlaceStage, Placing, Quiet, Right, Row, row_bit, RowsAreWritten, SetBirth, Shared, size_class_of, SizeClass, slot_count, slot_size, SpanHead, Steps, TheHeapIsApart, update, View, view}
 use Rattle.gh_base.specs.declared.limits.TheConstants.{MOST_STATEMENTS}
-use Rattle.gh_base.specs.declared.pack.PageWord.TheVariants as page
-use Rattle.gh_class.specs.declared.class.SizeClass.TheVariants as size
-use Rattle.gh_heap.specs.Spans.{owner_at, owner_in}
+use Rattle.gh_base.specs.declared.pack.PageWord.{PageWord}
 use Rattle.gh_model.specs.Ever.{field_count, next_name, same_name}
-use Rattle.gh_bitmap.specs.declared.set_pointers.SetStage.TheVariants as bits_stage
 use Rattle.gh_bitmap.specs.Facts as bits
 use Rattle.gh_bitmap.specs.SetPointers as setter
 use Rattle.gh_central.specs.GiveBack.{SpanGiving}
 use Rattle.gh_central.specs.GiveFacts as giving
-use Rattle.gh_alloc.specs.declared.place.PlaceStage.TheVariants.{Give, LoadTrigger, Ended}
+use Rattle.gh_alloc.specs.declared.place.PlaceStage.TheVariants.{Give, Ended}
 use Rattle.gh_alloc.specs.Place.{asks, asks_at, at_stage, given, given_at, goes}
 use Rattle.gh_alloc.specs.PlaceFacts.{Born, Changes, Comes, CountsAlone, FactsAt, FieldsClear, Filled, For, GivesUp, IsItsSpan, Lasts, Made, Opens, OwnStep, PlacesByItsRights, Unmade, Within, base, held_by, setting_at_stage}
-use Rattle.gh_alloc.proofs.Vocabulary.{Alloc, Arena, Birth, birth_word, bit, Bits, cell_of, Claims, Clear, ClearField, Count, EachRightFollows, eqb_tells, filled, Good, GoroutineRuns, InRange, is_pointer, IsFull, landing, made, Make, makes_its_object_at, Mark, May, moved, Name, Others, page_of, placed_at, PlaceStage, Placing, Quiet, Right, Row, row_bit, RowsAreWritten, SetBirth, SetStage, Shape, shape_at, Shared, size_class_of, slot_count, slot_size, SpanHead, Steps, TheHeapIsApart, update, View, view}
+use Rattle.gh_base.specs.Shapes.{is_pointer, shape_at}
+use Rattle.gh_base.specs.declared.value.Name.{Name}
+use Rattle.gh_bitmap.specs.declared.set_pointers.SetStage.{SetStage}
+use Rattle.gh_base.specs.declared.shape.Shape.{Shape}
 
 pub record Known : Type 0 where
   pub rows : RowsAreWritten
@@ -166,7 +166,7 @@ module _ (k : Known) (z : Arena) (a : ℕ) (s : Shared) (f : For) (held : ℕ �
     move = SetBirth p.at p.slot p.name;
     may = x.0.claim;
     words_are = refl;
-    after = ((refl, refl), (right-then, (unmade, born, refl, k.bits.opens z a (view t) (setting_at_stage p (bits_stage.Clear (p.at / 64))) x.0.places.fits unmade.claim x.0.places.some refl)), tt);
+    after = ((refl, refl), (right-then, (unmade, born, refl, k.bits.opens z a (view t) (setting_at_stage p (SetStage.Clear (p.at / 64))) x.0.places.fits unmade.claim x.0.places.some refl)), tt);
   } where
     t : Shared
     t = moved z a s (SetBirth p.at p.slot p.name)
@@ -195,7 +195,7 @@ module _ (k : Known) (z : Arena) (a : ℕ) (s : Shared) (f : For) (held : ℕ �
     named = subst (λ (w : View). Born w (base p)) (sym e) (record { fields = born.fields; birth = born.birth })
 
     go : (q : SetStage) → bits.Comes z a (view t) (setter.given_at q) (setting_at_stage p q) → Comes z a (view t) f held (given_at (cond (is_none (setter.given_at q)) (Bits (setting_at_stage p q)) (filled p.marking))) (at_stage p (cond (is_none (setter.given_at q)) (Bits (setting_at_stage p q)) (filled p.marking)))
-    go bits_stage.Ended x = filled-then t right (unmade, named, x.1) p.marking
+    go SetStage.Ended x = filled-then t right (unmade, named, x.1) p.marking
     go _ x = (right, (unmade, named, refl, x))
 
   bits-at : (q : SetStage) → Good z now → Right a now false held None → Unmade z a now f (base p) → Born now (base p) → bits.Facts z a now (setting_at_stage p q) → Step (Bits (setting_at_stage p q))
@@ -259,7 +259,7 @@ module _ (k : Known) (z : Arena) (a : ℕ) (s : Shared) (f : For) (held : ℕ �
     set : row_bit (view t).alloc p.at ≡ 1
     set = k.rows.sets_one now.alloc p.at
 
-    full : (q : ℕ) → u.claim.p ≡ q → u.claim.h.class ≡ size.Large → IsFull (view t).alloc q u.claim.h
+    full : (q : ℕ) → u.claim.p ≡ q → u.claim.h.class ≡ SizeClass.Large → IsFull (view t).alloc q u.claim.h
     full q e large i few =
         let one : slot_count u.claim.h ≡ 1 = rw (large) refl in
         let first : i ≡ 0 = omega (arith, few, one) in
@@ -282,7 +282,7 @@ module _ (k : Known) (z : Arena) (a : ℕ) (s : Shared) (f : For) (held : ℕ �
               back = record {
                 stage = refl;
                 h = u.claim.h;
-                head = subst (λ (n : ℕ). page_of (now.page n) ≡ page.Head u.claim.h) own.0 u.claim.slot.span.head;
+                head = subst (λ (n : ℕ). page_of (now.page n) ≡ PageWord.Head u.claim.h) own.0 u.claim.slot.span.head;
                 same = own.1;
                 held = subst (λ (n : ℕ). now.holds a n ≡ true) own.0 u.claim.held;
                 number = (g.numbers u.claim.p u.claim.h u.claim.slot.span.head).owned (λ none. let is : owner_at now.page u.claim.p ≡ u.claim.h.owner = ap owner_in u.claim.slot.span.head in omega (arith, (g.owners a u.claim.p).1 u.claim.held, is, none));
@@ -311,7 +311,7 @@ module _ (k : Known) (z : Arena) (a : ℕ) (s : Shared) (f : For) (held : ℕ �
     t = moved z a s (Quiet (asks_at z.layout p Count))
 
     bytes : ℕ
-    bytes = (s.words cell.Heap + 8 * p.slot) % 2 ^ 64
+    bytes = (s.words Cell.Heap + 8 * p.slot) % 2 ^ 64
 
     ends : (span : Option SpanHead) → Right a now false (held_by Count span (p.at / 1024) held) None → Right a (view t) false (held_by (Ended false) span (p.at / 1024) held) None
     ends None r = record { locked = r.locked; holds = r.holds; laying = r.laying; freeing = r.freeing }
@@ -331,7 +331,7 @@ module _ (k : Known) (z : Arena) (a : ℕ) (s : Shared) (f : For) (held : ℕ �
     t = moved z a s (Quiet (asks_at z.layout p (LoadTrigger bytes)))
 
     asks-so : Bool
-    asks-so = nat_le (s.words cell.Trigger) bytes
+    asks-so = nat_le (s.words Cell.Trigger) bytes
 
     go : (span : Option SpanHead) → Right a now false (held_by (LoadTrigger bytes) span (p.at / 1024) held) None → Right a (view t) false (held_by (Ended asks-so) span (p.at / 1024) held) None
     go None r = record { locked = r.locked; holds = r.holds; laying = r.laying; freeing = r.freeing }

@@ -1,14 +1,13 @@
 -- The steps of the search where a collector runs are moves that its rights allow, what it knows lasts, and where it finds no room there is none. Of the heap and of its routines it is known what their laws say.
 use Rattle.std.proofs.Common.{◌≡◌, ℕ, Bool, true, false, cond, Option, Some, None, refl, sym, ap, subst, ◌∙◌, arith}
+use Rattle.gh_alloc.proofs.Vocabulary.{after_first, after_free, Arena, asks_at, begin, CachedSpan, cell_of, EachFactLasts, EachMoveKeeps, EachMoveKeepsItsOwn, effect, Finding, FindStage, First, Free, frees_at, given_at, goes_at, Good, InRange, IsSpan, IsVacant, KeepsObjects, moved, Others, Reclaiming, refuses, SearchStage, Second, Seeking, Shared, Sought, SpanHead, Steps, Sweeping, SweepLeaves, TidyBefore, View, view, WalksGoOn}
 use Rattle.gh_central.specs.Reclaim as reclaim
 use Rattle.gh_central.specs.ReclaimFacts as reclaiming
-use Rattle.gh_central.specs.Sweeping.{SweepLeaves}
-use Rattle.gh_sweep.specs.Listing.{Sweeping}
 use Rattle.gh_alloc.specs.Find as find
 use Rattle.gh_alloc.specs.FindFacts as finding
 use Rattle.gh_alloc.specs.SearchFacts.{Comes, FactsAt, FindsNone, FreesEmptySpans, Has, Lasts, LooksAgain, LooksFirst, NoneIsTrue, Opens, OwnStep, Refuses, SeeksByItsRights, SweepStep, SweepsHere, Within, reclaim_at}
-use Rattle.gh_alloc.proofs.Vocabulary.{after_first, after_free, Arena, asks_at, begin, CachedSpan, cell_of, EachFactLasts, effect, EachMoveKeeps, EachMoveKeepsItsOwn, Finding, FindStage, First, Found, Free, frees_at, goes_at, Good, InRange, IsSpan, IsVacant, KeepsObjects, moved, Others, Reclaiming, refuses, SearchStage, Second, Seeking, Shared, Sought, SpanHead, Steps, TidyBefore, View, view, WalksGoOn}
-use Rattle.gh_alloc.specs.Search.{given, given_at, sweep_at, sweep_generation_at}
+use Rattle.gh_alloc.specs.Vocabulary.{Found}
+use Rattle.gh_alloc.specs.Search.{given, sweep_at, sweep_generation_at}
 use Rattle.gh_alloc.proofs.FindLasts.{seeks-last}
 use Rattle.gh_alloc.proofs.Seeking.Refusing.{second_gives}
 

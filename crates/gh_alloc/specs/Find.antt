@@ -1,26 +1,16 @@
 -- Looking for a slot: what is asked for at each stage, where that leads, what it has given, and that it writes what a sweep does and the lock.
 use Rattle.std.specs.Prelude.{ℕ, ◌+◌, ◌*◌, Bool, true, false, nat_lt, nat_le, ◌==◌, if◌then◌else◌, Option, Some, None, is_none}
-use Rattle.gh_base.specs.declared.cell.Cell.TheVariants as cell
-use Rattle.gh_base.specs.declared.cell.Ask.{Ask}
-use Rattle.gh_base.specs.declared.cell.Ask.TheVariants.{Load, Store, Swap}
-use Rattle.gh_base.specs.declared.pack.SpanHead.{SpanHead}
-use Rattle.gh_base.specs.Footprints.{Footprint}
+use Rattle.gh_alloc.specs.Vocabulary.{After, Again, Ask, At, CachedSpan, Carve, Cell, End, Ended, Find, FindStage, Footprint, Found, Give, Large, Layout, Listing, Load, Lock, NoRoom, pages_of, Pass, SizeClass, Slots, slots_of, Small, Sought, SpanClass, SpanHead, Store, Swap, Sweeping, Unlock, Unswept}
 use Rattle.gh_base.specs.Footprints as row
-use Rattle.gh_class.specs.declared.class.SizeClass.TheVariants as size
-use Rattle.gh_class.specs.Classes.{pages_of, slots_of}
 use Rattle.gh_cache.specs.declared.next_slot.Cached.{Cached}
 use Rattle.gh_cache.specs.Listing as slots
 use Rattle.gh_central.specs.GiveBack as give
 use Rattle.gh_central.specs.SweptPass as pass
 use Rattle.gh_central.specs.UnsweptPass as unswept
 use Rattle.gh_sweep.specs.Listing as sweep
-use Rattle.gh_sweep.specs.Listing.{Sweeping}
-use Rattle.gh_alloc.specs.declared.find.Find.{Find}
 use Rattle.gh_pages.specs.Listing as carve
-use Rattle.gh_base.specs.Machines.{Listing}
 use Rattle.gh_alloc.specs.FindSound.{Sound}
 pub use Rattle.gh_alloc.specs.Within.{span_for}
-use Rattle.gh_alloc.specs.Vocabulary.{Layout, SpanClass, Sought, Small, Large, CachedSpan, Found, At, NoRoom, After, Again, End, FindStage, Slots, Lock, Give, Pass, Unswept, Carve, Unlock, Ended}
 
 -- a search: whose it is, the sweep generation, what it is for, the span that is cached, whether unswept spans are looked for too, and its stage
 abbrev pub Finding : Type 0
@@ -46,7 +36,7 @@ opening seat generation wanted cached = record { seat = seat; generation = gener
 
 -- the cached span is given back as a swept one
 abbrev pub given_head : (generation : ℕ) → SpanClass → SpanHead
-given_head generation c = record { class = size.Small c.class; noscan = c.noscan; pages = pages_of c.class; owner = 0; number = generation }
+given_head generation c = record { class = SizeClass.Small c.class; noscan = c.noscan; pages = pages_of c.class; owner = 0; number = generation }
 
 abbrev pub move_cursor : ℕ → Option CachedSpan → Option CachedSpan
 move_cursor cursor None = None
@@ -129,13 +119,13 @@ module _ (l : Layout) (f : Finding) where
 
   abbrev pub asks_at : FindStage → Ask
   asks_at (Slots s) = slots.asks l s
-  asks_at Lock = Swap cell.Lock 0 (f.seat + 1)
+  asks_at Lock = Swap Cell.Lock 0 (f.seat + 1)
   asks_at (Give g) = give.asks g
   asks_at (Pass p) = pass.asks l p
   asks_at (Unswept u) = unswept.asks l u
   asks_at (Carve c) = carve.asks c
-  asks_at (Unlock after) = Store cell.Lock 0
-  asks_at (Ended out) = Load cell.Touch
+  asks_at (Unlock after) = Store Cell.Lock 0
+  asks_at (Ended out) = Load Cell.Touch
 
 abbrev pub goes_at : Layout → Finding → FindStage → ℕ → Finding
 goes_at l f (Slots s) found = after_slots (searched f (slots.goes s found)) (slots.given (slots.goes s found))

@@ -1,25 +1,20 @@
 -- What is known at each stage of the search for a slot while any number of processors change the heap, under which rights, and the laws: what each step of its own is, that it is on a word that there is, that what is known lasts whatever others do, and what is true where it finds no room.
 use Rattle.std.specs.Prelude.{◌≡◌, ℕ, ◌+◌, ◌*◌, ◌/◌, ◌^◌, ◌<◌, ◌≤◌, Bool, true, false, Option, Some, None}
-use Rattle.gh_class.specs.declared.class.SizeClass.TheVariants as size
+use Rattle.gh_alloc.specs.Vocabulary.{Again, Arena, At, CachedSpan, Carve, cell_of, Claims, effect, End, Ended, FindStage, Found, Give, Good, InRange, KeepsObjects, Large, Laying, Leaves, Lock, NoRoom, Others, Pass, Right, Shared, SizeClass, slot_words_of, Slots, slots_of, Small, Sought, SpanClass, SpanHead, Steps, Sweeping, SweepLeaves, Unlock, Unswept, update, View, view}
 use Rattle.gh_cache.specs.Facts.{SpanIsHeld, TakenBelow}
 use Rattle.gh_cache.specs.Listing as slots
 use Rattle.gh_central.specs.declared.pass.PassStage.{PassStage}
 use Rattle.gh_central.specs.GiveBack as give
 use Rattle.gh_central.specs.PassFacts as passing
 use Rattle.gh_central.specs.SweptPass as pass
-use Rattle.gh_central.specs.Sweeping.{SweepLeaves}
 use Rattle.gh_central.specs.UnsweptFacts as sweeping
 use Rattle.gh_central.specs.UnsweptPass as unswept
 use Rattle.gh_central.specs.declared.unswept.UnsweptStage.{UnsweptStage}
-use Rattle.gh_sweep.specs.Listing.{Sweeping}
-use Rattle.gh_base.specs.Steps.{effect}
 use Rattle.gh_pages.specs.declared.carve.CarveStage.{CarveStage}
 use Rattle.gh_pages.specs.Facts as carving
 use Rattle.gh_pages.specs.Listing as carve
-use Rattle.gh_alloc.specs.Vocabulary.{SpanClass, Sought, Small, Large, CachedSpan, Found, At, NoRoom, Again, End, FindStage, Slots, Lock, Give, Pass, Unswept, Carve, Unlock, Ended}
 use Rattle.gh_alloc.specs.Find.{Finding, asks, at_stage, given_head, gives, goes, opening, refuses, span_at, span_for, spans_for, sweep_generation, sweep_in}
 use Rattle.gh_alloc.specs.FindSound.{IsSought}
-use Rattle.gh_alloc.specs.Vocabulary.{Arena, cell_of, Claims, Good, InRange, KeepsObjects, Laying, Leaves, Others, Right, Shared, slot_words_of, slots_of, SpanHead, Steps, update, View, view}
 
 -- The cached span.
 
@@ -116,10 +111,10 @@ pub record OwnsLarge (z : Arena) (a : ℕ) (v : View) (f : Finding) (x : ℕ) : 
   pub noscan : Bool
   pub wanted : f.wanted ≡ Large pages noscan
   pub claim : Claims z v a x (1024 * pages)
-  pub class : claim.h.class ≡ size.Large
+  pub class : claim.h.class ≡ SizeClass.Large
   pub noscan_is : claim.h.noscan ≡ noscan
   pub first : claim.p ≡ x / 1024
-  pub head : claim.h ≡ record { class = size.Large; noscan = noscan; pages = pages; owner = a + 1; number = v.generation }
+  pub head : claim.h ≡ record { class = SizeClass.Large; noscan = noscan; pages = pages; owner = a + 1; number = v.generation }
 
 pub record InSlots (f : Finding) (s : slots.Searching) : Type 0 where
   pub c : SpanClass
@@ -195,7 +190,7 @@ pub record Facts (z : Arena) (a : ℕ) (sure : Bool) (v : View) (rest : ℕ → 
 
 pub record FindsSlot (z : Arena) (a : ℕ) (v : View) (c : SpanClass) (k : CachedSpan) (x : ℕ) : Type 0 where
   pub claim : Claims z v a x (slot_words_of c.class)
-  pub class : claim.h.class ≡ size.Small c.class
+  pub class : claim.h.class ≡ SizeClass.Small c.class
   pub noscan_is : claim.h.noscan ≡ c.noscan
 
 abbrev pub SlotIsFound : Arena → (a : ℕ) → View → Finding → Sought → Option CachedSpan → (x : ℕ) → Type 0

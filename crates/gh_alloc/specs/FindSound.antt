@@ -1,18 +1,12 @@
 -- What the search knows of its own numbers, whatever it is told.
 use Rattle.std.specs.Prelude.{◌≡◌, ℕ, ◌+◌, ◌^◌, ◌<◌, ◌≤◌, Option, Some}
-use Rattle.gh_base.specs.Cells.{seats_of}
-use Rattle.gh_base.specs.Machines.{Runs}
-use Rattle.gh_base.specs.declared.limits.TheConstants.{MOST_PAGES}
+use Rattle.gh_alloc.specs.Vocabulary.{After, Again, CachedSpan, Carve, End, Ended, Find, FindStage, Give, Large, Layout, Lock, MOST_PAGES, pages_of, Pass, Runs, seats_of, SizeClass, Slots, slots_of, Small, Sought, Unlock, Unswept}
 use Rattle.gh_class.specs.declared.class.TheConstants.{CLASSES, MOST_SPAN_PAGES}
-use Rattle.gh_class.specs.declared.class.SizeClass.TheVariants as size
-use Rattle.gh_class.specs.Classes.{pages_of, slots_of}
 use Rattle.gh_cache.specs.Listing as slots
 use Rattle.gh_central.specs.GiveBack as give
 use Rattle.gh_central.specs.SweptPass as pass
 use Rattle.gh_central.specs.UnsweptPass as unswept
 use Rattle.gh_pages.specs.Listing as carve
-use Rattle.gh_alloc.specs.Vocabulary.{Layout, Sought, Small, Large, CachedSpan, After, Again, End, FindStage, Slots, Lock, Give, Pass, Unswept, Carve, Unlock, Ended}
-use Rattle.gh_alloc.specs.declared.find.Find.{Find}
 use Rattle.gh_alloc.specs.Within.{LiesWithin, span_for}
 
 -- a large object has 1 to MOST_SPAN_PAGES pages
@@ -46,7 +40,7 @@ AfterLiesWithin l wanted (End out) = LiesWithin l wanted out
 
 -- the routine that it runs is sound, for what is wanted, and asks for a step
 abbrev pub IsStage : Layout → Sought → FindStage → Type 0
-IsStage l wanted (Slots s) = Runs (slots.listing l) s × (size.Small s.span.class ≡ (span_for wanted).class)
+IsStage l wanted (Slots s) = Runs (slots.listing l) s × (SizeClass.Small s.span.class ≡ (span_for wanted).class)
 IsStage l wanted (Give g) = Runs (give.listing l) g
 IsStage l wanted (Pass p) = Runs (pass.listing l) p × (wanted ≡ Small p.wanted)
 IsStage l wanted (Unswept u) = Runs (unswept.listing l) u × (wanted ≡ Small u.wanted)

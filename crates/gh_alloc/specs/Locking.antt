@@ -1,9 +1,8 @@
 -- A search writes page words with the heap's lock alone, and frees the lock before it ends.
 use Rattle.std.specs.Prelude.{ℕ, zero, suc, Bool, true, false, ◌==◌, if◌then◌else◌}
+use Rattle.gh_alloc.specs.Vocabulary.{Ask, Store, Swap, told}
 use Rattle.gh_base.specs.declared.cell.Cell.TheVariants.{Lock}
-use Rattle.gh_base.specs.declared.cell.Ask.{Ask}
-use Rattle.gh_base.specs.declared.cell.Ask.TheVariants.{Store, Swap}
-use Rattle.gh_base.specs.Routines.{Listing, told}
+use Rattle.gh_base.specs.Routines.{Listing}
 
 -- it has the lock after a step that found this: it takes it by a swap that found 0, and frees it by a store
 abbrev pub lock_after : Bool → Ask → ℕ → Bool

@@ -1,15 +1,7 @@
 -- While marking is on, an object is marked before it is made; while it is off, nothing is marked.
 use Rattle.std.specs.Prelude.{◌≡◌, ◌≢◌, ℕ, ◌<◌, true, false, Option}
+use Rattle.gh_alloc.specs.Vocabulary.{cell_of, Layout, Name, Or, PlaceStage, Shape, SpanHead, steps_of, told}
 use Rattle.gh_base.specs.declared.cell.Cell.TheVariants.{Alloc, Mark}
-use Rattle.gh_base.specs.declared.cell.Ask.TheVariants.{Or}
-use Rattle.gh_base.specs.declared.layout.Layout.{Layout}
-use Rattle.gh_base.specs.declared.pack.SpanHead.{SpanHead}
-use Rattle.gh_base.specs.declared.shape.Shape.{Shape}
-use Rattle.gh_base.specs.declared.value.Name.{Name}
-use Rattle.gh_base.specs.Machines.{steps_of}
-use Rattle.gh_base.specs.Routines.{told}
-use Rattle.gh_base.specs.Steps.{cell_of}
-use Rattle.gh_alloc.specs.declared.place.PlaceStage.TheVariants as stage
 use Rattle.gh_alloc.specs.Place.{Placing, asks, goes, listing, opening}
 
 -- before this step one has set the same bits of the mark word
@@ -21,7 +13,7 @@ pub record IsMarkedBefore (l : Layout) (p : Placing) (found : ℕ → ℕ) (step
 -- the object is made while marking is off
 pub record IsMadeUnmarked (p : Placing) : Type 0 where
   pub off : p.marking ≡ false
-  pub stage : p.stage ≢ stage.Mark
+  pub stage : p.stage ≢ PlaceStage.Mark
 
 -- whatever it is told
 pub record AnObjectIsMarkedBeforeItIsMade : Type 0 where

@@ -1,20 +1,10 @@
 -- Making an object in its slot: what is asked for at each stage, where that leads, what it has given, and what it writes.
 use Rattle.std.specs.Prelude.{ℕ, ◌+◌, ◌*◌, ◌/◌, ◌%◌, ◌^◌, Bool, true, false, nat_le, nat_lt, not, if◌then◌else◌, Option, Some, None, is_none}
-use Rattle.gh_base.specs.declared.cell.Cell.TheVariants as cell
-use Rattle.gh_base.specs.declared.cell.Ask.{Ask}
-use Rattle.gh_base.specs.declared.cell.Ask.TheVariants.{Load, Store, Or, Add}
-use Rattle.gh_base.specs.declared.layout.Layout.{Layout}
-use Rattle.gh_base.specs.declared.pack.SpanHead.{SpanHead}
-use Rattle.gh_base.specs.declared.shape.Shape.{Shape}
-use Rattle.gh_base.specs.declared.value.Name.{Name}
-use Rattle.gh_base.specs.Footprints.{Footprint}
+use Rattle.gh_alloc.specs.Vocabulary.{Add, Alloc, Ask, Birth, birth_word, Bits, Cell, Clear, Count, Footprint, Layout, Listing, Load, LoadTrigger, Mark, Name, Or, PlaceStage, Shape, SpanHead, Store}
 use Rattle.gh_base.specs.Footprints as row
-use Rattle.gh_base.specs.Machines.{Listing}
-use Rattle.gh_base.specs.Packing.{birth_word}
 use Rattle.gh_bitmap.specs.SetPointers as bits
 use Rattle.gh_central.specs.GiveBack as give
-use Rattle.gh_alloc.specs.declared.place.PlaceStage.{PlaceStage}
-use Rattle.gh_alloc.specs.declared.place.PlaceStage.TheVariants.{Clear, Birth, Bits, Mark, Alloc, Give, Count, LoadTrigger, Ended}
+use Rattle.gh_alloc.specs.declared.place.PlaceStage.TheVariants.{Give, Ended}
 use Rattle.gh_alloc.specs.PlaceSound.{Sound}
 pub use Rattle.gh_alloc.specs.PlaceSound.{Placing}
 
@@ -30,15 +20,15 @@ filled marking = if marking then Mark else Alloc
 
 module _ (l : Layout) (p : Placing) where
   abbrev pub asks_at : PlaceStage → Ask
-  asks_at (Clear k) = Store (cell.Field (p.at + k)) 0
-  asks_at Birth = Store (cell.Birth p.at) (birth_word p.name)
+  asks_at (Clear k) = Store (Cell.Field (p.at + k)) 0
+  asks_at Birth = Store (Cell.Birth p.at) (birth_word p.name)
   asks_at (Bits s) = bits.asks l s
-  asks_at Mark = Or (cell.Mark (p.at / 64)) (2 ^ (p.at % 64))
-  asks_at Alloc = Or (cell.Alloc (p.at / 64)) (2 ^ (p.at % 64))
+  asks_at Mark = Or (Cell.Mark (p.at / 64)) (2 ^ (p.at % 64))
+  asks_at Alloc = Or (Cell.Alloc (p.at / 64)) (2 ^ (p.at % 64))
   asks_at (Give g) = give.asks g
-  asks_at Count = Add cell.Heap (8 * p.slot)
-  asks_at (LoadTrigger bytes) = Load cell.Trigger
-  asks_at (Ended wants) = Load cell.Touch
+  asks_at Count = Add Cell.Heap (8 * p.slot)
+  asks_at (LoadTrigger bytes) = Load Cell.Trigger
+  asks_at (Ended wants) = Load Cell.Touch
 
 module _ (p : Placing) where
   -- once the object is made, a large one's span is given back

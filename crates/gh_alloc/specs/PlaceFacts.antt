@@ -1,24 +1,19 @@
 -- What is known at each stage of the making of an object while any number of processors change the heap, under which rights, and the laws: what each step of its own is, that it is on a word that there is, and that what is known lasts whatever others do.
 use Rattle.std.specs.Prelude.{◌≡◌, ℕ, ◌+◌, ◌/◌, ◌<◌, Bool, true, false, length, Option, Some, None}
-use Rattle.gh_base.specs.declared.limits.TheConstants.{MOST_STATEMENTS, REGISTERS}
-use Rattle.gh_base.specs.Packing.{birth_word}
+use Rattle.gh_alloc.specs.Vocabulary.{Alloc, Arena, Birth, birth_word, Bits, cell_of, Claims, Clear, Count, Good, GoroutineRuns, InRange, IsFull, LoadTrigger, Mark, MOST_STATEMENTS, Others, owned_by, placed_at, PlaceStage, REGISTERS, Right, Shared, size_class_of, SizeClass, SpanHead, Steps, update, View, view}
 use Rattle.gh_base.specs.Rows.{Row}
 use Rattle.gh_base.specs.Shapes.{shape_at}
-use Rattle.gh_class.specs.declared.class.SizeClass.TheVariants as size
-use Rattle.gh_model.specs.declared.EverValue.TheVariants as ever
+use Rattle.gh_model.specs.declared.EverValue.{EverValue}
 use Rattle.gh_model.specs.Ever.{field_count, next_name, with_object, with_register}
 use Rattle.gh_heap.specs.Objects.{IsMade}
 use Rattle.gh_bitmap.specs.declared.set_pointers.SetStage.{SetStage}
-use Rattle.gh_bitmap.specs.declared.set_pointers.SetStage.TheVariants as bits_stage
 use Rattle.gh_bitmap.specs.Facts as bits
 use Rattle.gh_bitmap.specs.SetPointers.{PointerSetting, at_stage as bits_at, opening as begin_bits}
 use Rattle.gh_bitmap.specs.Stepping.{FitsSlot}
 use Rattle.gh_central.specs.GiveBack.{SpanGiving}
 use Rattle.gh_central.specs.GiveFacts.{CanGiveBack}
-use Rattle.gh_alloc.specs.declared.place.PlaceStage.{PlaceStage}
-use Rattle.gh_alloc.specs.declared.place.PlaceStage.TheVariants.{Clear, Birth, Bits, Mark, Alloc, Give, Count, LoadTrigger, Ended}
+use Rattle.gh_alloc.specs.declared.place.PlaceStage.TheVariants.{Give, Ended}
 use Rattle.gh_alloc.specs.Place.{Placing, makes_its_object, asks, at_stage, gives, goes}
-use Rattle.gh_alloc.specs.Vocabulary.{Arena, cell_of, Claims, Good, GoroutineRuns, InRange, IsFull, Others, owned_by, placed_at, Right, Shared, size_class_of, SpanHead, Steps, update, View, view}
 
 -- The routine before its first step. What is known is said of it and of the stage.
 abbrev pub base : Placing → Placing
@@ -33,7 +28,7 @@ pub record For : Type 0 where
 -- The span of a large object, in which it has the one slot; it is given back once the object is made.
 abbrev pub IsItsSpan : Option SpanHead → (p : ℕ) → (h : SpanHead) → (at : ℕ) → Type 0
 IsItsSpan None p h at = Unit {0}
-IsItsSpan (Some head) p h at = (p ≡ at / 1024) × (owned_by 0 h ≡ owned_by 0 head) × (h.class ≡ size.Large)
+IsItsSpan (Some head) p h at = (p ≡ at / 1024) × (owned_by 0 h ≡ owned_by 0 head) × (h.class ≡ SizeClass.Large)
 
 -- what is to be made, and for whom: it does not change
 pub record Places (z : Arena) (f : For) (p : Placing) : Type 0 where
@@ -75,14 +70,14 @@ setting_at_stage p q = bits_at (begin_bits p.shape p.at p.slot) q
 
 -- the slot is as the object's is to be: its fields, its birth word and its pointer bits
 abbrev pub Filled : Arena → (a : ℕ) → View → For → Placing → Type 0
-Filled z a v f p = Unmade z a v f p × Born v p × bits.ToldBelow (setting_at_stage p bits_stage.Ended) v.bitmap (p.at + p.slot)
+Filled z a v f p = Unmade z a v f p × Born v p × bits.ToldBelow (setting_at_stage p SetStage.Ended) v.bitmap (p.at + p.slot)
 
 -- a large object's span is given back next
 pub record GivesUp (z : Arena) (a : ℕ) (v : View) (p : Placing) (g : SpanGiving) : Type 0 where
   pub head : SpanHead
   pub span : p.span ≡ Some head
   pub back : CanGiveBack z a v g
-  pub large : back.h.class ≡ size.Large
+  pub large : back.h.class ≡ SizeClass.Large
   pub full : IsFull v.alloc g.page back.h
   pub page : g.page ≡ p.at / 1024
 
@@ -112,7 +107,7 @@ held_in p held = held_by p.stage p.span (p.at / 1024) held
 
 -- the heap that never frees changes exactly by the step that makes the object
 abbrev pub Changes : Arena → For → Placing → (acted : Bool) → (v w : View) → Type 0
-Changes z f p true v w = (w.ever ≡ with_register (with_object z.shapes v.ever f.g f.t) f.g f.d (ever.Ref (next_name v.ever f.g))) × (w.place ≡ placed_at v.place (next_name v.ever f.g) p.at) × (p.name ≡ next_name v.ever f.g)
+Changes z f p true v w = (w.ever ≡ with_register (with_object z.shapes v.ever f.g f.t) f.g f.d (EverValue.Ref (next_name v.ever f.g))) × (w.place ≡ placed_at v.place (next_name v.ever f.g) p.at) × (p.name ≡ next_name v.ever f.g)
 Changes z f p false v w = (w.ever ≡ v.ever) × (w.place ≡ v.place)
 
 -- What a step comes to in w: the right that its seat has then; and the facts of the next stage, or that the object is made.

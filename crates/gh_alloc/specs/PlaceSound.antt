@@ -1,15 +1,9 @@
 -- What the making of an object knows of its own numbers, whatever it is told.
 use Rattle.std.specs.Prelude.{ℕ, ◌+◌, ◌*◌, ◌^◌, ◌<◌, ◌≤◌, Bool, Option, Some, None}
-use Rattle.gh_base.specs.declared.layout.Layout.{Layout}
-use Rattle.gh_base.specs.declared.pack.SpanHead.{SpanHead}
-use Rattle.gh_base.specs.declared.shape.Shape.{Shape}
-use Rattle.gh_base.specs.declared.value.Name.{Name}
-use Rattle.gh_base.specs.Machines.{Runs}
-use Rattle.gh_base.specs.Packing.{FitsHead}
+use Rattle.gh_alloc.specs.Vocabulary.{Bits, Clear, FitsHead, Layout, Name, PlaceStage, Runs, Shape, SpanHead}
 use Rattle.gh_bitmap.specs.SetPointers as bits
 use Rattle.gh_central.specs.GiveBack as give
-use Rattle.gh_alloc.specs.declared.place.PlaceStage.{PlaceStage}
-use Rattle.gh_alloc.specs.declared.place.PlaceStage.TheVariants.{Clear, Bits, Give}
+use Rattle.gh_alloc.specs.declared.place.PlaceStage.TheVariants.{Give}
 
 -- the making of an object: of which shape and name, in the slot at which heap word and of how many words, a large one's span, whether marking is on, and its stage
 pub record Placing : Type 0 where

@@ -1,9 +1,9 @@
 -- The routines of allocation write no word of the handshake of a stop.
+use Rattle.gh_alloc.specs.Vocabulary.{Layout}
 use Rattle.gh_phase.specs.Handshake.{IsQuietInHandshake}
 use Rattle.gh_alloc.specs.Find as find
 use Rattle.gh_alloc.specs.Place as place
 use Rattle.gh_alloc.specs.Search as search
-use Rattle.gh_base.specs.declared.layout.Layout.{Layout}
 
 -- whatever their numbers, and at each stage
 pub record AllocationIsQuiet : Type 0 where

@@ -1,16 +1,11 @@
 -- What the search where a collector runs has done where it says that there is no room.
 use Rattle.std.specs.Prelude.{◌≡◌, ℕ, ◌+◌, ◌<◌, ◌≤◌, ◌⊎◌, true, Option, None}
-use Rattle.gh_base.specs.declared.cell.Cell.TheVariants as cell
-use Rattle.gh_base.specs.declared.cell.Ask.{Ask}
-use Rattle.gh_base.specs.declared.cell.Ask.TheVariants.{Store, Swap}
-use Rattle.gh_base.specs.Machines.{steps_of}
-use Rattle.gh_base.specs.Packing.{head_word}
-use Rattle.gh_base.specs.Routines.{EndsWith, GoesOn, Listing, told}
+use Rattle.gh_alloc.specs.Vocabulary.{Ask, CachedSpan, Cell, EndsWith, GoesOn, head_word, Large, Layout, NoRoom, Small, Sought, SpanClass, steps_of, Store, Swap, told}
+use Rattle.gh_base.specs.Routines.{Listing}
 use Rattle.gh_central.specs.Reclaim as reclaim
 use Rattle.gh_central.specs.SweptPass as pass
 use Rattle.gh_central.specs.UnsweptPass as unswept
 use Rattle.gh_pages.specs.Listing as carve
-use Rattle.gh_alloc.specs.Vocabulary.{Layout, SpanClass, Sought, Small, Large, CachedSpan, NoRoom}
 use Rattle.gh_alloc.specs.Find.{given_head, span_for}
 use Rattle.gh_alloc.specs.Locking.{holds}
 use Rattle.gh_alloc.specs.Refusing.{since}
@@ -56,7 +51,7 @@ module _ (asks : ℕ → Ask) (found : ℕ → ℕ) where
       pub class : SpanClass
       pub small : wanted ≡ Small class
       pub page : ℕ
-      pub store : asks step ≡ Store (cell.Page page) (head_word (given_head generation class))
+      pub store : asks step ≡ Store (Cell.Page page) (head_word (given_head generation class))
 
     -- the first step of a search stands behind the lock, or behind the step that gives a cached span back
     abbrev pub Follows : (wanted : Sought) (lock first : ℕ) → Type 0
@@ -74,7 +69,7 @@ module _ (s : Seeking) (found : ℕ → ℕ) (l : Layout) (seat generation : ℕ
   pub record HasFoundNoneTwice : Type 0 where
     -- it took the lock
     pub lock : ℕ
-    pub takes : asked lock ≡ Swap cell.Lock 0 (seat + 1)
+    pub takes : asked lock ≡ Swap Cell.Lock 0 (seat + 1)
     pub free : found lock ≡ 0
     -- and gave a cached span back, if one was cached; then it found nothing,
     pub first : ℕ
@@ -88,7 +83,7 @@ module _ (s : Seeking) (found : ℕ → ℕ) (l : Layout) (seat generation : ℕ
     pub last_again : ℕ
     pub none_again : FindsNone asked found l seat generation wanted (freed + 1) last_again
     pub next : last_again + 1 ≡ step
-    pub frees_lock : asked step ≡ Store cell.Lock 0
+    pub frees_lock : asked step ≡ Store Cell.Lock 0
     -- all the while it had the lock
     pub held : (n : ℕ) → lock < n → n ≤ step → holds (steps_of l (listing l)) s found n ≡ true
 

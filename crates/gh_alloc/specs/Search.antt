@@ -1,17 +1,10 @@
 -- Looking for a slot where a collector runs: what is asked for at each stage, where that leads, what it has given, and that it writes what the search does that it runs.
 use Rattle.std.specs.Prelude.{ℕ, Bool, true, false, if◌then◌else◌, Option, Some, None, is_none}
-use Rattle.gh_base.specs.declared.cell.Ask.{Ask}
-use Rattle.gh_base.specs.Machines.{Listing}
-use Rattle.gh_central.specs.Reclaim.{Reclaiming}
+use Rattle.gh_alloc.specs.Vocabulary.{Ask, CachedSpan, FindStage, First, Found, Free, Layout, Listing, Reclaiming, Search, SearchStage, Second, Sought, Sweeping, Unlock}
 use Rattle.gh_central.specs.Reclaim as reclaim
-use Rattle.gh_alloc.specs.declared.search.Search.{Search}
-use Rattle.gh_alloc.specs.declared.search.SearchStage.{SearchStage}
-use Rattle.gh_alloc.specs.declared.search.SearchStage.TheVariants.{First, Free, Second}
 use Rattle.gh_alloc.specs.SearchSound.{Sound}
-use Rattle.gh_alloc.specs.Vocabulary.{Layout, Sought, CachedSpan, Found, FindStage, Unlock}
 use Rattle.gh_alloc.specs.Find.{Finding, spans_for}
 use Rattle.gh_alloc.specs.Find as find
-use Rattle.gh_sweep.specs.Listing.{Sweeping}
 
 -- the search of the cached span and of the heap, and the stage that says which search it is
 abbrev pub Seeking : Type 0

@@ -1,21 +1,9 @@
 -- What is known at each stage of the search where a collector runs, while any number of processors change the heap, under which rights, and the laws: what each step of its own is, that it is on a word that there is, that what is known lasts whatever others do, and what is true where it finds no room.
 use Rattle.std.specs.Prelude.{◌≡◌, ◌≢◌, ℕ, ◌+◌, ◌<◌, ◌≤◌, Bool, true, false, Option, Some, None}
-use Rattle.gh_base.specs.declared.pack.PageWord.TheVariants as page
-use Rattle.gh_base.specs.declared.pack.SpanHead.{SpanHead}
-use Rattle.gh_base.specs.Cells.{InRange}
-use Rattle.gh_base.specs.Packing.{page_of}
-use Rattle.gh_base.specs.Steps.{cell_of, effect}
-use Rattle.gh_heap.specs.Moves.{KeepsObjects, Others, Steps}
-use Rattle.gh_heap.specs.Rights.{Arena, Good, Right, Rights, Shared, TidyBefore, View, view}
-use Rattle.gh_heap.specs.Spans.{Freeing, IsSpan, IsVacant, Laying}
-use Rattle.gh_central.specs.Reclaim.{Reclaiming}
+use Rattle.gh_alloc.specs.Vocabulary.{Arena, At, CachedSpan, cell_of, effect, End, First, Found, Free, Freeing, Good, InRange, IsSpan, IsVacant, KeepsObjects, Laying, NoRoom, Others, page_of, Reclaiming, Right, Rights, SearchStage, Second, Shared, SpanHead, Steps, Sweeping, SweepLeaves, TidyBefore, Unlock, View, view}
+use Rattle.gh_base.specs.declared.pack.PageWord.{PageWord}
 use Rattle.gh_central.specs.ReclaimFacts as reclaiming
-use Rattle.gh_central.specs.Sweeping.{SweepLeaves}
-use Rattle.gh_sweep.specs.Listing.{Sweeping}
 use Rattle.gh_central.specs.declared.reclaim.ReclaimStage.{ReclaimStage}
-use Rattle.gh_alloc.specs.declared.search.SearchStage.{SearchStage}
-use Rattle.gh_alloc.specs.declared.search.SearchStage.TheVariants.{First, Free, Second}
-use Rattle.gh_alloc.specs.Vocabulary.{CachedSpan, Found, At, NoRoom, End, Unlock}
 use Rattle.gh_alloc.specs.Find.{Finding, span_for}
 use Rattle.gh_alloc.specs.Find as find
 use Rattle.gh_alloc.specs.FindFacts as finding
@@ -77,7 +65,7 @@ Facts z a v rest q = FactsAt z a v rest q.find q.stage
 
 -- the page is not free, nor in a span that nobody owns and in which no object stands
 pub record PageIsTaken (z : Arena) (v : View) (q : ℕ) : Type 0 where
-  pub taken : page_of (v.page q) ≢ page.Free
+  pub taken : page_of (v.page q) ≢ PageWord.Free
   pub used : (p : ℕ) (h : SpanHead) → IsSpan z.layout.pages v.page p h → p ≤ q → q < p + h.pages → h.owner ≡ 0 → ¬ IsVacant v.alloc p h
 
 -- No span of the span class is cached, each that nobody owns is full, and no run of pages fits, also if those of spans without an owner and an object are counted as free.

@@ -1,11 +1,7 @@
 -- What the search where a collector runs knows of its own numbers, whatever it is told.
-use Rattle.gh_base.specs.Machines.{Runs}
+use Rattle.gh_alloc.specs.Vocabulary.{Free, Layout, Runs, Search, SearchStage}
 use Rattle.gh_central.specs.Reclaim as reclaim
-use Rattle.gh_alloc.specs.declared.search.Search.{Search}
-use Rattle.gh_alloc.specs.declared.search.SearchStage.{SearchStage}
-use Rattle.gh_alloc.specs.declared.search.SearchStage.TheVariants.{Free}
 use Rattle.gh_alloc.specs.FindSound as finding
-use Rattle.gh_alloc.specs.Vocabulary.{Layout}
 
 -- the freeing that it runs is sound, and asks for a step
 abbrev pub IsStage : Layout → SearchStage → Type 0

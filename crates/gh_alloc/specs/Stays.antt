@@ -1,8 +1,6 @@
 -- What stays of a search, whatever it is told: all of its numbers but the cached span and the stage.
-use Rattle.std.specs.Prelude.{◌≡◌, ℕ}
-use Rattle.std.proofs.Common.{arith}
-use Rattle.gh_alloc.specs.declared.search.SearchStage.{SearchStage}
-use Rattle.gh_alloc.specs.Vocabulary.{Layout, Sought, FindStage}
+use Rattle.std.proofs.Common.{arith, ◌≡◌, ℕ}
+use Rattle.gh_alloc.specs.Vocabulary.{FindStage, Layout, SearchStage, Sought}
 use Rattle.gh_alloc.specs.Find.{Finding}
 use Rattle.gh_alloc.specs.Find as find
 use Rattle.gh_alloc.specs.Search.{goes_at}

@@ -1,9 +1,6 @@
 -- Where the making of an object tells that a cycle is to be asked for: exactly where the heap's bytes, with the object's, reach the trigger, as it finds the two while marking is off.
 use Rattle.std.specs.Prelude.{◌≡◌, ℕ, ◌+◌, ◌*◌, ◌%◌, ◌^◌, ◌≤◌, true, false, Some}
-use Rattle.gh_base.specs.declared.cell.Ask.TheVariants.{Add, Load}
-use Rattle.gh_base.specs.declared.cell.Cell.TheVariants.{Heap, Trigger}
-use Rattle.gh_alloc.specs.declared.place.PlaceStage.TheVariants.{Count, LoadTrigger}
-use Rattle.gh_base.specs.declared.layout.Layout.{Layout}
+use Rattle.gh_alloc.specs.Vocabulary.{Add, Count, Heap, Layout, Load, LoadTrigger, Trigger}
 use Rattle.gh_alloc.specs.Place.{Placing, asks, gives, goes}
 
 -- it adds the object's bytes while marking is off, and the heap has so many with them, by what the step finds

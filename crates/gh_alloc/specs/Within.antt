@@ -1,15 +1,12 @@
 -- The slot that the search ends with lies in the arena.
 use Rattle.std.specs.Prelude.{ℕ, ◌+◌, ◌*◌, ◌≤◌}
-use Rattle.gh_base.specs.Packing.{slot_for}
-use Rattle.gh_alloc.specs.Vocabulary.{Layout, Sought, Small, Large, Found, At, NoRoom}
-use Rattle.gh_class.specs.declared.class.SizeClass.TheVariants as size
-use Rattle.gh_class.specs.Classes.{pages_of}
+use Rattle.gh_alloc.specs.Vocabulary.{At, Found, Large, Layout, NoRoom, pages_of, SizeClass, slot_for, Small, Sought}
 use Rattle.gh_pages.specs.declared.carve.Span.{Span}
 
 -- what a fresh span is cut for
 abbrev pub span_for : Sought → Span
-span_for (Small c) = record { class = size.Small c.class; noscan = c.noscan; pages = pages_of c.class }
-span_for (Large pages noscan) = record { class = size.Large; noscan = noscan; pages = pages }
+span_for (Small c) = record { class = SizeClass.Small c.class; noscan = c.noscan; pages = pages_of c.class }
+span_for (Large pages noscan) = record { class = SizeClass.Large; noscan = noscan; pages = pages }
 
 -- the words of the slot that is looked for
 abbrev pub words_sought : Sought → ℕ

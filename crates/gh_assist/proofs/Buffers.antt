@@ -1,11 +1,10 @@
 -- The steps of the routines on buffers are on words that there are, whatever is found.
 use Rattle.std.proofs.Common.{ℕ, arith}
 use Rattle.std.proofs.lemmas.Bool.Decides.{nat_tests}
-use Rattle.gh_base.specs.declared.layout.Layout.{Layout}
+use Rattle.gh_assist.proofs.Vocabulary.{Layout, RoomWithin, TakenIsReference, TakeStageWithin, TakeWithin}
 use Rattle.gh_wbuf.specs.declared.take_entry.TakeStage.{TakeStage}
 use Rattle.gh_wbuf.specs.EntryTaking as take
 use Rattle.gh_wbuf.specs.RoomFinding as room
-use Rattle.gh_assist.specs.Within.{RoomWithin, TakenIsReference, TakeStageWithin, TakeWithin}
 
 module _ (l : Layout) where
   pub room_goes : (r : room.RoomFinding) (found : ℕ) → RoomWithin l r → RoomWithin l (room.goes l r found)

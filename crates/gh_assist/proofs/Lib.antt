@@ -5,3 +5,4 @@ pub mod Paying
 pub mod Scans
 pub mod Sound
 pub mod Within
+pub mod Vocabulary

@@ -1,15 +1,12 @@
 -- How an assist pays what is owed, step by step, by the law of the draws.
 use Rattle.std.proofs.Common.{◌≡◌, ℕ, ◌+◌, ◌-◌, ◌^◌, ◌<◌, ◌⊎◌, true, false, Option, refl, ap, arith}
-use Rattle.gh_base.specs.declared.layout.Layout.{Layout}
+use Rattle.gh_assist.proofs.Vocabulary.{Assisting, AssistStage, IsSound, Layout, SoundParts}
 use Rattle.gh_credit.specs.Drawing as draw
 use Rattle.gh_credit.specs.Drawing.{drawn_by, DrawsCredit, LeavesOrDraws, words_given}
 use Rattle.gh_scan.specs.Listing as scan
 use Rattle.gh_wbuf.specs.EntryTaking as take
-use Rattle.gh_assist.specs.declared.assist.AssistStage.{AssistStage}
 use Rattle.gh_assist.specs.Listing as assist
-use Rattle.gh_assist.specs.Listing.{Assisting}
 use Rattle.gh_assist.specs.Paying.{AddsDebt, AssistsPay, FindsNoGreyObject, LoadsDebt, scanned_by}
-use Rattle.gh_assist.specs.Sound.{IsSound, SoundParts}
 use Rattle.gh_assist.proofs.Choices.{by_owes}
 
 owes_sound : (x : Assisting) → IsSound (assist.draws_if_owed x)

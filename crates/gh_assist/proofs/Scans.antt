@@ -1,14 +1,11 @@
 -- The steps of shading and of the scan of an object are on words that there are, whatever is found.
 use Rattle.std.proofs.Common.{ℕ, Option, arith}
-use Rattle.gh_base.specs.declared.held.Held.{Held}
-use Rattle.gh_base.specs.declared.layout.Layout.{Layout}
+use Rattle.gh_assist.proofs.Vocabulary.{HasRoomForEntry, Held, Layout, RoomWithin, ScanStageWithin, ScanWithin, ShadeWithin}
 use Rattle.gh_scan.specs.declared.scan.ScanStage.{ScanStage}
-use Rattle.gh_scan.specs.declared.scan.ScanStage.TheVariants as scan_at
 use Rattle.gh_scan.specs.Listing as scan
 use Rattle.gh_shade.specs.declared.shade.Shaded.{Shaded}
 use Rattle.gh_shade.specs.Listing as shade
 use Rattle.gh_wbuf.specs.RoomFinding as room
-use Rattle.gh_assist.specs.Within.{HasRoomForEntry, RoomWithin, ScanStageWithin, ScanWithin, ShadeWithin}
 use Rattle.gh_assist.proofs.Buffers.{room_goes}
 
 module _ (l : Layout) where
@@ -25,8 +22,8 @@ module _ (l : Layout) where
   after_room s sh r out w o x g = grind arith
 
   scan_goes_at : (s : scan.Scanning) (p : ScanStage) (found : ℕ) → ScanWithin l s → ScanStageWithin l p → ScanWithin l (scan.goes_at l s p found)
-  scan_goes_at s (scan_at.Shading sh) found w o = after_shade s (shade.goes sh found) (shade.gives sh found) w (shade_goes sh found o)
-  scan_goes_at s (scan_at.FindRoom sh r) found w o = after_room s sh (room.goes l r found) (room.gives l r found) w o.0 (room_goes l r found o.1) (room_gives r found o.1)
+  scan_goes_at s (ScanStage.Shading sh) found w o = after_shade s (shade.goes sh found) (shade.gives sh found) w (shade_goes sh found o)
+  scan_goes_at s (ScanStage.FindRoom sh r) found w o = after_room s sh (room.goes l r found) (room.gives l r found) w o.0 (room_goes l r found o.1) (room_gives r found o.1)
   scan_goes_at s p found w o = grind arith
 
   pub scan_goes : (s : scan.Scanning) (found : ℕ) → ScanWithin l s → ScanWithin l (scan.goes l s found)

@@ -1,15 +1,11 @@
 -- The steps of an assist are on words that there are, and so are those of the routines of marking that it runs.
 use Rattle.std.proofs.Common.{ℕ, Option, Some, None, arith}
 use Rattle.std.proofs.lemmas.Nat.{mod_below}
-use Rattle.gh_base.specs.declared.layout.Layout.{Layout}
+use Rattle.gh_assist.proofs.Vocabulary.{Assisting, AssistsAreWithin, AssistStage, AssistWithin, Layout, ScanWithin, StageWithin, TakenIsReference, TakeWithin, TakingAndScanningAreWithin}
 use Rattle.gh_base.specs.Holding.{IsHeld}
 use Rattle.gh_scan.specs.Listing as scan
 use Rattle.gh_wbuf.specs.EntryTaking as take
-use Rattle.gh_assist.specs.declared.assist.AssistStage.{AssistStage}
-use Rattle.gh_assist.specs.declared.assist.AssistStage.TheVariants as at
 use Rattle.gh_assist.specs.Listing as assist
-use Rattle.gh_assist.specs.Listing.{Assisting}
-use Rattle.gh_assist.specs.Within.{AssistsAreWithin, AssistWithin, ScanWithin, StageWithin, TakenIsReference, TakeWithin, TakingAndScanningAreWithin}
 use Rattle.gh_assist.proofs.Buffers.{room_goes, take_goes, taken}
 use Rattle.gh_assist.proofs.Scans.{scan_goes}
 
@@ -31,8 +27,8 @@ module _ (l : Layout) (x : Assisting) (h : IsHeld l x.held) where
   after_scan m (Some words) s = pays l (assist.scanned_for x (scan.held_at m.held m.stage) words) (scan_holds l m s)
 
   goes_at : (p : AssistStage) (found : ℕ) → StageWithin l p → AssistWithin l (assist.goes_at l x p found)
-  goes_at (at.Taking t) found s = after_take (take.goes l t found) (take.gives l t found) (take_goes l t found s) (taken l t found s)
-  goes_at (at.Scanning m) found s = after_scan (scan.goes l m found) (scan.gives l m found) (scan_goes l m found s)
+  goes_at (AssistStage.Taking t) found s = after_take (take.goes l t found) (take.gives l t found) (take_goes l t found s) (taken l t found s)
+  goes_at (AssistStage.Scanning m) found s = after_scan (scan.goes l m found) (scan.gives l m found) (scan_goes l m found s)
   goes_at p found s = grind arith
 
 pub assists_are_within : AssistsAreWithin

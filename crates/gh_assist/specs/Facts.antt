@@ -1,10 +1,7 @@
 -- What is known of an assist at each stage while marking is on: it has in hand what its routine has, and nothing else; between two of them its buffer alone.
 use Rattle.std.specs.Prelude.{◌≡◌, ℕ, false, true, Option}
-use Rattle.gh_assist.specs.declared.assist.AssistStage.{AssistStage}
-use Rattle.gh_assist.specs.declared.assist.AssistStage.TheVariants.{Taking, Scanning}
+use Rattle.gh_assist.specs.Vocabulary.{AssistStage, cell_of, Held, Scanning, Taking}
 use Rattle.gh_assist.specs.Listing.{asks, Assisting, goes, is_busy, opening}
-use Rattle.gh_base.specs.declared.held.Held.{Held}
-use Rattle.gh_base.specs.Steps.{cell_of}
 use Rattle.gh_marks.specs.Colours.{Cycle, Shared}
 use Rattle.gh_marks.specs.Good.{Good}
 use Rattle.gh_marks.specs.Knows.{KnowsObjects}

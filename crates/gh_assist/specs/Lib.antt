@@ -4,3 +4,4 @@ pub mod Paying
 pub mod Quiet
 pub mod Sound
 pub mod Within
+pub mod Vocabulary

@@ -1,19 +1,10 @@
 -- An assist: what is asked for at each stage, where that leads, and when it has ended.
 use Rattle.std.specs.Prelude.{ℕ, ◌+◌, ◌-◌, ◌%◌, ◌^◌, ◌==◌, if◌then◌else◌, Bool, true, Option, Some, None, is_none, max, min}
+use Rattle.gh_assist.specs.Vocabulary.{Ask, Assist, AssistStage, Cell, debt, Drawing, Ended, Held, Layout, Listing, Load, LoadSlack, LoadWork, Scanning, Taking}
 use Rattle.gh_assist.specs.Sound.{SoundAssisting}
-use Rattle.gh_assist.specs.declared.assist.Assist.{Assist}
-use Rattle.gh_assist.specs.declared.assist.AssistStage.{AssistStage}
-use Rattle.gh_assist.specs.declared.assist.AssistStage.TheVariants.{LoadWork, LoadSlack, Drawing, Taking, Scanning, Ended}
-use Rattle.gh_base.specs.declared.cell.Ask.{Ask}
-use Rattle.gh_base.specs.declared.cell.Ask.TheVariants.{Load}
-use Rattle.gh_base.specs.declared.cell.Cell.TheVariants as cell
-use Rattle.gh_base.specs.declared.held.Held.{Held}
-use Rattle.gh_base.specs.declared.layout.Layout.{Layout}
 use Rattle.gh_base.specs.Footprints.{Footprint}
 use Rattle.gh_base.specs.Footprints as row
-use Rattle.gh_base.specs.Machines.{Listing}
 use Rattle.gh_credit.specs.Drawing as draw
-use Rattle.gh_pacer.specs.Pacing.{debt}
 use Rattle.gh_scan.specs.Listing as scan
 use Rattle.gh_wbuf.specs.EntryTaking as take
 
@@ -83,12 +74,12 @@ after_scan x s (Some words) = pays (scanned_for x (scan.held_at s.held s.stage) 
 
 module _ (l : Layout) where
   abbrev pub asks_at : AssistStage → Ask
-  asks_at LoadWork = Load cell.Work
-  asks_at (LoadSlack work) = Load cell.Slack
+  asks_at LoadWork = Load Cell.Work
+  asks_at (LoadSlack work) = Load Cell.Slack
   asks_at (Drawing d) = draw.asks d
   asks_at (Taking t) = take.asks t
   asks_at (Scanning s) = scan.asks l s
-  asks_at Ended = Load cell.Touch
+  asks_at Ended = Load Cell.Touch
 
   abbrev pub goes_at : Assisting → AssistStage → ℕ → Assisting
   goes_at x LoadWork found = at_stage x (LoadSlack (work_in found))

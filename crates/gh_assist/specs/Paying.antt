@@ -1,15 +1,9 @@
 -- How an assist pays what is owed, whatever it is told: each word that it draws out of the bank and each that it scans pays one, once.
 use Rattle.std.specs.Prelude.{◌≡◌, ◌⊎◌, ℕ, ◌+◌, ◌-◌, ◌%◌, ◌^◌, ◌<◌, false, true, Option, Some, None}
-use Rattle.gh_assist.specs.declared.assist.AssistStage.{AssistStage}
-use Rattle.gh_assist.specs.declared.assist.AssistStage.TheVariants.{LoadWork, LoadSlack, Taking, Scanning}
+use Rattle.gh_assist.specs.Vocabulary.{AssistStage, Cell, debt, Held, Layout, Load, LoadSlack, LoadWork, Scanning, Taking}
 use Rattle.gh_assist.specs.Listing.{asks, Assisting, goes, is_busy, opening, slack_in, work_in}
 use Rattle.gh_assist.specs.Sound.{IsSound}
-use Rattle.gh_base.specs.declared.cell.Ask.TheVariants.{Load}
-use Rattle.gh_base.specs.declared.cell.Cell.TheVariants as cell
-use Rattle.gh_base.specs.declared.held.Held.{Held}
-use Rattle.gh_base.specs.declared.layout.Layout.{Layout}
 use Rattle.gh_credit.specs.Drawing.{drawn_by, LeavesOrDraws, words_given}
-use Rattle.gh_pacer.specs.Pacing.{debt}
 use Rattle.gh_scan.specs.Listing as scan
 use Rattle.gh_wbuf.specs.EntryTaking as take
 
@@ -26,8 +20,8 @@ module _ (l : Layout) where
 
   -- the debt of an object is that of its bytes, by the work and the slack as it has loaded them
   pub record LoadsDebt (x : Assisting) : Type 0 where
-    pub loads_work : (found : ℕ) → x.stage ≡ LoadWork → (asks l x ≡ Load cell.Work) × ((goes l x found).stage ≡ LoadSlack (work_in found)) × ((goes l x found).owed ≡ x.owed)
-    pub loads_slack : (work found : ℕ) → x.stage ≡ LoadSlack work → (asks l x ≡ Load cell.Slack) × ((goes l x found).owed ≡ (x.owed + debt x.bytes work (slack_in found)) % 2 ^ 64)
+    pub loads_work : (found : ℕ) → x.stage ≡ LoadWork → (asks l x ≡ Load Cell.Work) × ((goes l x found).stage ≡ LoadSlack (work_in found)) × ((goes l x found).owed ≡ x.owed)
+    pub loads_slack : (work found : ℕ) → x.stage ≡ LoadSlack work → (asks l x ≡ Load Cell.Slack) × ((goes l x found).owed ≡ (x.owed + debt x.bytes work (slack_in found)) % 2 ^ 64)
 
 -- the step loads the slack
 abbrev pub AddsDebt : AssistStage → Type 0

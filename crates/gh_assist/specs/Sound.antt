@@ -1,13 +1,7 @@
 -- What an assist knows of its own numbers and routines, whatever it is told.
 use Rattle.std.specs.Prelude.{◌≡◌, ℕ, ◌^◌, ◌<◌, ◌≤◌, true}
-use Rattle.gh_assist.specs.declared.assist.Assist.{Assist}
-use Rattle.gh_assist.specs.declared.assist.AssistStage.{AssistStage}
-use Rattle.gh_assist.specs.declared.assist.AssistStage.TheVariants.{LoadSlack, Drawing, Taking, Scanning}
+use Rattle.gh_assist.specs.Vocabulary.{Assist, AssistStage, Drawing, IsHeld, Layout, LoadSlack, Runs, Scanning, seats_of, Taking}
 use Rattle.gh_assist.specs.declared.assist.TheConstants.{MOST_ASSIST_BYTES}
-use Rattle.gh_base.specs.declared.layout.Layout.{Layout}
-use Rattle.gh_base.specs.Cells.{seats_of}
-use Rattle.gh_base.specs.Holding.{IsHeld}
-use Rattle.gh_base.specs.Machines.{Runs}
 use Rattle.gh_credit.specs.Drawing as draw
 use Rattle.gh_scan.specs.Listing as scan
 use Rattle.gh_wbuf.specs.EntryTaking as take

@@ -1,23 +1,14 @@
 -- The steps of taking and scanning objects, and so of an assist, are on words that there are: what is known of their numbers, whatever they are told.
 use Rattle.std.specs.Prelude.{◌≡◌, ℕ, ◌+◌, ◌*◌, ◌%◌, ◌<◌, ◌≤◌, true, Option, Some, None}
-use Rattle.gh_assist.specs.declared.assist.AssistStage.{AssistStage}
-use Rattle.gh_assist.specs.declared.assist.AssistStage.TheVariants.{Taking, Scanning}
+use Rattle.gh_assist.specs.Vocabulary.{AssistStage, buffers_of, cell_of, FitsBuffers, Held, InRange, IsHeld, Layout, Scanning, Taking}
 use Rattle.gh_assist.specs.Listing.{asks, Assisting, goes, held_at, opening}
-use Rattle.gh_base.specs.declared.held.Held.{Held}
-use Rattle.gh_base.specs.declared.layout.Layout.{Layout}
 use Rattle.gh_base.specs.declared.pack.TheConstants.{ENTRIES}
-use Rattle.gh_base.specs.Cells.{buffers_of, InRange}
-use Rattle.gh_base.specs.Holding.{FitsBuffers, IsHeld}
-use Rattle.gh_base.specs.Steps.{cell_of}
 use Rattle.gh_scan.specs.declared.scan.ScanStage.{ScanStage}
-use Rattle.gh_scan.specs.declared.scan.ScanStage.TheVariants as scan_at
 use Rattle.gh_scan.specs.Listing as scan
 use Rattle.gh_shade.specs.Listing as shade
 use Rattle.gh_shade.specs.Sound.{SoundStage, IsReference}
 use Rattle.gh_wbuf.specs.declared.find_room.RoomStage.{RoomStage}
-use Rattle.gh_wbuf.specs.declared.find_room.RoomStage.TheVariants as room_at
 use Rattle.gh_wbuf.specs.declared.take_entry.TakeStage.{TakeStage}
-use Rattle.gh_wbuf.specs.declared.take_entry.TakeStage.TheVariants as take_at
 use Rattle.gh_wbuf.specs.declared.try_buffer.Wish.TheVariants.{Room}
 use Rattle.gh_wbuf.specs.EntryTaking as take
 use Rattle.gh_wbuf.specs.RoomFinding as room
@@ -31,9 +22,9 @@ pub record TryWithin (l : Layout) (t : Trying) : Type 0 where
   pub opened : SoundTryStage t.wish t.stage
 
 abbrev pub RoomStageWithin : Layout → RoomStage → Type 0
-RoomStageWithin l (room_at.GiveBack h) = FitsBuffers l h
-RoomStageWithin l (room_at.Try t) = TryWithin l t × (t.wish ≡ Room) × (try.is_busy t.stage ≡ true)
-RoomStageWithin l (room_at.Ended h) = FitsBuffers l h × (h.count < ENTRIES)
+RoomStageWithin l (RoomStage.GiveBack h) = FitsBuffers l h
+RoomStageWithin l (RoomStage.Try t) = TryWithin l t × (t.wish ≡ Room) × (try.is_busy t.stage ≡ true)
+RoomStageWithin l (RoomStage.Ended h) = FitsBuffers l h × (h.count < ENTRIES)
 
 pub record RoomWithin (l : Layout) (r : room.RoomFinding) : Type 0 where
   pub stage : RoomStageWithin l r.stage
@@ -44,9 +35,9 @@ TakenIsReference l (Some (Some reference)) = IsReference l reference
 TakenIsReference l _ = Unit {0}
 
 abbrev pub TakeStageWithin : Layout → TakeStage → Type 0
-TakeStageWithin l (take_at.Try t) = TryWithin l t × (try.is_busy t.stage ≡ true)
-TakeStageWithin l (take_at.Take h) = FitsBuffers l h
-TakeStageWithin l (take_at.Ended held entry) = IsHeld l held × TakenIsReference l (Some entry)
+TakeStageWithin l (TakeStage.Try t) = TryWithin l t × (try.is_busy t.stage ≡ true)
+TakeStageWithin l (TakeStage.Take h) = FitsBuffers l h
+TakeStageWithin l (TakeStage.Ended held entry) = IsHeld l held × TakenIsReference l (Some entry)
 
 pub record TakeWithin (l : Layout) (t : take.EntryTaking) : Type 0 where
   pub stage : TakeStageWithin l t.stage
@@ -62,8 +53,8 @@ pub record ShadeWithin (l : Layout) (s : shade.Shading) : Type 0 where
   pub stage : SoundStage s.held s.stage
 
 abbrev pub ScanStageWithin : Layout → ScanStage → Type 0
-ScanStageWithin l (scan_at.Shading sh) = ShadeWithin l sh
-ScanStageWithin l (scan_at.FindRoom sh r) = ShadeWithin l sh × RoomWithin l r
+ScanStageWithin l (ScanStage.Shading sh) = ShadeWithin l sh
+ScanStageWithin l (ScanStage.FindRoom sh r) = ShadeWithin l sh × RoomWithin l r
 ScanStageWithin l _ = Unit {0}
 
 pub record ScanWithin (l : Layout) (s : scan.Scanning) : Type 0 where

@@ -1,12 +1,9 @@
 -- Each step of the writing of a pointer leaves fewer steps, by its stages.
 use Rattle.std.proofs.Common.{◌≡◌, ℕ, ◌+◌, ◌≤◌, true, Option, None, arith}
-use Rattle.gh_base.specs.declared.layout.Layout.{Layout}
-use Rattle.gh_shade.specs.declared.shade.Shaded.{Shaded}
+use Rattle.gh_barrier.proofs.Vocabulary.{after_new, after_old, goes_at, is_busy, Layout, Shaded, shades_old, WriteStage, Writing}
 use Rattle.gh_shade.specs.declared.shade.ShadeStage.{ShadeStage}
 use Rattle.gh_shade.specs.Listing as shade
-use Rattle.gh_barrier.specs.declared.write_pointer.WriteStage.{WriteStage}
 use Rattle.gh_barrier.specs.Ending.{shade_left, write_left, WritingEnds}
-use Rattle.gh_barrier.specs.Listing.{after_new, after_old, goes_at, is_busy, shades_old, Writing}
 
 some-left : (q : ShadeStage) → 1 ≤ shade_left q
 some-left q = grind arith

@@ -1,9 +1,7 @@
 -- While marking is on the steps of a write behind the barrier are moves that its seat may make. Of the moves and of shading it is known what their laws say.
-use Rattle.std.proofs.Common.{◌≡◌, ◌≢◌, ℕ, ◌+◌, ◌-◌, ◌*◌, ◌%◌, ◌<◌, ◌≤◌, Bool, true, false, cond, eqb, Option, Some, None, inl, refl, sym, ap, subst, ◌∙◌, arith, eqb-true, eq-eqb}
+use Rattle.std.proofs.Common.{◌≡◌, ◌≢◌, ℕ, ◌+◌, ◌-◌, ◌*◌, ◌%◌, ◌<◌, ◌≤◌, Bool, true, false, cond, eqb, Option, Some, None, inl, refl, sym, ap, subst, ◌∙◌, arith, eqb-true, eq-eqb, is_none}
 use Rattle.std.proofs.Math.Nat.{mod-eq_of_lt}
-use Rattle.std.specs.Prelude.{is_none}
-use Rattle.gh_base.specs.declared.cell.Ask.TheVariants as ask
-use Rattle.gh_base.specs.declared.cell.Cell.TheVariants as cell
+use Rattle.gh_barrier.proofs.Vocabulary.{after_new, after_old, asks_at, at_stage, behind_old, cell_at, cell_of, Done, effect, Ended, given_at, goes, goes_at, HasPlace, HasTwo, Held, Layout, LoadOld, object_of, pointer_word, put, Shaded, ShadeNew, ShadeOld, shades_old, Store, WantsRoom, with_old, WriteStage, Writing}
 use Rattle.gh_marks.specs.Colours.{Cycle, IsClean, IsMarked, IsSince, Shared}
 use Rattle.gh_marks.specs.Good.{Good}
 use Rattle.gh_marks.specs.Knows.{KnowsObject, KnowsObjects}
@@ -12,12 +10,15 @@ use Rattle.gh_marks.specs.Moves as move
 use Rattle.gh_marks.specs.Moves.{BehindBarrier, Keeps, Lands, Others, Steps, Went, landing, landing_on, lands_by, lands_still, moved}
 use Rattle.gh_marks.specs.Seats.{Hands, InHand}
 use Rattle.gh_barrier.specs.Facts.{Facts, IsCell, IsKnownPointer, OldValueStands, put_of, StageFacts, WritesByMoves}
-use Rattle.gh_barrier.proofs.Vocabulary.{after_new, after_old, Ask, asks_at, at_stage, behind_old, bitmap_words, Cell, cell_at, cell_of, Done, effect, Ended, Field, given_at, Global, goes, goes_at, HasTwo, Held, in_hand, Layout, LoadOld, mark_words, pointer_word, PointerCell, put, Shaded, ShadeNew, ShadeOld, shades_old, Store, WantsRoom, with_old, WriteStage, Writing}
+use Rattle.gh_base.specs.declared.cell.Ask.{Ask}
+use Rattle.gh_base.specs.Rows.{bitmap_words, mark_words}
+use Rattle.gh_base.specs.declared.cell.Cell.{Cell}
+use Rattle.gh_barrier.specs.declared.pointer_cell.PointerCell.TheVariants.{Field, Global}
+use Rattle.gh_shade.specs.Facts.{in_hand}
+use Rattle.gh_barrier.specs.declared.pointer_cell.PointerCell.{PointerCell}
 use Rattle.gh_barrier.proofs.Room.{held-stays, never-wants, place-of, place-then}
 use Rattle.gh_shade.specs.Facts as shade_facts
-use Rattle.gh_shade.specs.Listing.{object_of}
 use Rattle.gh_shade.specs.Listing as shade
-use Rattle.gh_shade.specs.Sound.{HasPlace}
 
 pub record Known : Type 0 where
   pub facts : EachFactLasts
@@ -70,8 +71,8 @@ module _ (k : Known) (z : Cycle) (a : ℕ) (s : Shared) (rest : InHand) where
 
   -- the store is this move
   stores-by : (at : PointerCell) (v : ℕ) → BehindBarrier s (s.words (cell_at at)) v → Lands z a s (put s.words (cell_at at) v) (λ t. t ≡ moved z a s (put_of at v))
-  stores-by (Field x) v b = lands_by z a s (put s.words (cell.Field x) v) (λ t. t ≡ moved z a s (move.PutField x v)) (move.PutField x v) b refl refl
-  stores-by (Global i) v b = lands_by z a s (put s.words (cell.Global i) v) (λ t. t ≡ moved z a s (move.PutGlobal i v)) (move.PutGlobal i v) b refl refl
+  stores-by (Field x) v b = lands_by z a s (put s.words (Cell.Field x) v) (λ t. t ≡ moved z a s (move.PutField x v)) (move.PutField x v) b refl refl
+  stores-by (Global i) v b = lands_by z a s (put s.words (Cell.Global i) v) (λ t. t ≡ moved z a s (move.PutGlobal i v)) (move.PutGlobal i v) b refl refl
 
 module _ (k : Known) (z : Cycle) (a : ℕ) (s : Shared) (rest : InHand) (g : Good z s) (objects : KnowsObjects z s) (w : Writing) (is : IsCell s w.at) (known : IsKnownPointer s w.pointer) where
   abbrev c : Cell
@@ -80,25 +81,25 @@ module _ (k : Known) (z : Cycle) (a : ℕ) (s : Shared) (rest : InHand) (g : Goo
   abbrev Leads : Ask → Writing → Type 0
   Leads step n = Steps z a s step (λ t. Keeps z a s t × Facts z a t rest n)
 
-  still : (d : Cell) (n : Writing) → Facts z a s rest n → Leads (ask.Load d) n
+  still : (d : Cell) (n : Writing) → Facts z a s rest n → Leads (Ask.Load d) n
   still d n f = lands_still z a s s.words (λ t. Keeps z a s t × Facts z a t rest n) refl ((k.go_on z a).stays s, f)
 
   -- what a pointer cell holds is of the cycle
   since-at : (at : PointerCell) → IsCell s at → IsSince s.since (s.words (cell_at at))
   since-at at h = grind arith
 
-  loads : HasTwo w.held → Hands a s (in_hand rest w.held None) → Leads (ask.Load c) (with_old z.arena.layout w (s.words c))
+  loads : HasTwo w.held → Hands a s (in_hand rest w.held None) → Leads (Ask.Load c) (with_old z.arena.layout w (s.words c))
   loads two x = by (eqb v 0) refl where
     v : ℕ
     v = s.words c
 
-    by : (b : Bool) → eqb v 0 ≡ b → Leads (ask.Load c) (shades_old w (cond b None (Some ((v - 1) % (1024 * z.arena.layout.pages) + 1))))
+    by : (b : Bool) → eqb v 0 ≡ b → Leads (Ask.Load c) (shades_old w (cond b None (Some ((v - 1) % (1024 * z.arena.layout.pages) + 1))))
     by true e = still c (behind_old w) (new-facts k z a s rest w is known (place-of w.held two) (nil-clean s v (eqb-true _ _ e)) x)
     by false e =
         let some : v ≢ 0 = λ n. absurd (cc (e, eq-eqb _ _ n)) in
         let plus : v ≡ (v - 1) + 1 = omega arith in
         let since : s.since (v - 1) ≡ true = since-at w.at is (v - 1) plus in
-        let there : KnowsObject z.arena.layout.pages (λ p. s.words (cell.Page p)) (bitmap_words s.words) s.extents (v - 1) = objects (v - 1) since in
+        let there : KnowsObject z.arena.layout.pages (λ p. s.words (Cell.Page p)) (bitmap_words s.words) s.extents (v - 1) = objects (v - 1) since in
         let within : v - 1 < 1024 * z.arena.layout.pages = omega (arith, there.within, there.some) in
         let reference : (v - 1) % (1024 * z.arena.layout.pages) + 1 ≡ v = ap (λ (n : ℕ). n + 1) (mod-eq_of_lt within) ∙ sym plus in
         still c (at_stage w (ShadeOld (shade.opening ((v - 1) % (1024 * z.arena.layout.pages) + 1) w.held))) (record {
@@ -154,10 +155,10 @@ module _ (k : Known) (z : Cycle) (a : ℕ) (s : Shared) (rest : InHand) (g : Goo
 
   -- the store is a move behind the barrier
   puts : (at : PointerCell) (v : ℕ) (h : InHand) → BehindBarrier s (s.words (cell_at at)) v → Hands a s h → Lands z a s (put s.words (cell_at at) v) (λ t. Keeps z a s t × Hands a t h)
-  puts (Field x) v h b hands = lands_by z a s (put s.words (cell.Field x) v) (λ t. Keeps z a s t × Hands a t h) (move.PutField x v) b refl (k.leave z a s (move.PutField x v) g b tt, (k.follow z a s h g hands).put_field x v)
-  puts (Global i) v h b hands = lands_by z a s (put s.words (cell.Global i) v) (λ t. Keeps z a s t × Hands a t h) (move.PutGlobal i v) b refl (k.leave z a s (move.PutGlobal i v) g b tt, (k.follow z a s h g hands).put_global i v)
+  puts (Field x) v h b hands = lands_by z a s (put s.words (Cell.Field x) v) (λ t. Keeps z a s t × Hands a t h) (move.PutField x v) b refl (k.leave z a s (move.PutField x v) g b tt, (k.follow z a s h g hands).put_field x v)
+  puts (Global i) v h b hands = lands_by z a s (put s.words (Cell.Global i) v) (λ t. Keeps z a s t × Hands a t h) (move.PutGlobal i v) b refl (k.leave z a s (move.PutGlobal i v) g b tt, (k.follow z a s h g hands).put_global i v)
 
-  stores : StageFacts z a s rest w Store → Leads (ask.Store c (pointer_word w.pointer)) (at_stage w Ended)
+  stores : StageFacts z a s rest w Store → Leads (Ask.Store c (pointer_word w.pointer)) (at_stage w Ended)
   stores f = landing z a s (put s.words c (pointer_word w.pointer)) (λ t. Keeps z a s t × Hands a t (in_hand rest w.held None)) (λ t. Keeps z a s t × Facts z a t rest (at_stage w Ended))
       (λ t went h. (h.0, record { is_cell = cell-kept k z a s t h.0 w.at is; known = known-kept k z a s t h.0 w.pointer known; stage_is = h.1 }))
       (puts w.at (pointer_word w.pointer) (in_hand rest w.held None) (behind k z a s rest w known f) f.2)
@@ -167,7 +168,7 @@ module _ (k : Known) (z : Cycle) (a : ℕ) (s : Shared) (rest : InHand) (g : Goo
   own-at (ShadeOld sh) f x = shades-old sh x.0 x.1 x.2 x.3
   own-at (ShadeNew sh) f x = shades-new sh x.0 x.1 x.2 x.3 x.4
   own-at Store f x = stores x
-  own-at Ended f x = still cell.Touch (at_stage w Ended) (record { is_cell = is; known = known; stage_is = x })
+  own-at Ended f x = still Cell.Touch (at_stage w Ended) (record { is_cell = is; known = known; stage_is = x })
 
 module _ (k : Known) (z : Cycle) (a : ℕ) (s t : Shared) (rest : InHand) (w : Writing) (o : Others z a s t) (is : IsCell s w.at) where
   stage-lasts : (p : WriteStage) → StageFacts z a s rest w p → StageFacts z a t rest w p

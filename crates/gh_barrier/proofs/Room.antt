@@ -1,10 +1,7 @@
 -- There is room for both objects, whatever is told: with an entry free shading never wishes for room, and it takes one at the most.
 use Rattle.std.proofs.Common.{◌≡◌, ◌≢◌, ℕ, true, Option, Some, None, arith}
-use Rattle.gh_base.specs.declared.held.Held.{Held}
-use Rattle.gh_shade.specs.declared.shade.Shaded.TheVariants.{WantsRoom}
-use Rattle.gh_shade.specs.Listing.{gives, goes, is_busy, Shading}
-use Rattle.gh_shade.specs.Sound.{HasPlace}
-use Rattle.gh_barrier.specs.Sound.{HasTwo}
+use Rattle.gh_barrier.proofs.Vocabulary.{gives, HasPlace, HasTwo, Held, Shading, WantsRoom}
+use Rattle.gh_shade.specs.Listing.{goes, is_busy}
 
 pub held-stays : (sh : Shading) (found : ℕ) → gives sh found ≡ None → (goes sh found).held ≡ sh.held
 held-stays sh found e = grind arith

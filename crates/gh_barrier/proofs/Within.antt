@@ -1,20 +1,11 @@
 -- The writing of a pointer asks for words that there are, by its stages.
 use Rattle.std.proofs.Common.{◌≡◌, ℕ, true, Option, refl, arith}
-use Rattle.gh_base.specs.declared.held.Held.{Held}
-use Rattle.gh_base.specs.declared.layout.Layout.{Layout}
+use Rattle.gh_barrier.proofs.Vocabulary.{after_new, after_old, asks_at, cell_at, cell_of, Ended, FitsPointer, goes_at, Held, held_at, InRange, Layout, listing, LoadOld, read_as, Shaded, ShadeNew, ShadeOld, shades_old, SoundShading, SoundStage, SoundWriting, Store, writes, WriteStage, Writing}
 use Rattle.gh_base.specs.Blind.{is_store}
-use Rattle.gh_base.specs.Cells.{InRange}
 use Rattle.gh_base.specs.Footprints.{FootprintsHold, Writes}
 use Rattle.gh_base.specs.Holding.{IsHeld}
 use Rattle.gh_base.specs.Machines.{IsRoutine}
-use Rattle.gh_base.specs.Steps.{cell_of}
-use Rattle.gh_shade.specs.declared.shade.Shaded.{Shaded}
 use Rattle.gh_shade.specs.Listing as shade
-use Rattle.gh_shade.specs.Sound.{SoundShading}
-use Rattle.gh_barrier.specs.declared.write_pointer.WriteStage.{WriteStage}
-use Rattle.gh_barrier.specs.declared.write_pointer.WriteStage.TheVariants.{LoadOld, ShadeOld, ShadeNew, Store, Ended}
-use Rattle.gh_barrier.specs.Listing.{after_new, after_old, asks_at, cell_at, goes_at, held_at, listing, read_as, shades_old, Writing, writes}
-use Rattle.gh_barrier.specs.Sound.{FitsPointer, SoundStage, SoundWriting}
 use Rattle.gh_barrier.specs.Within.{WritingIsWithin}
 
 module _ (l : Layout) where

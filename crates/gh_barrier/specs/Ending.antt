@@ -1,8 +1,6 @@
 -- How many steps the writing of a pointer has left at the most, at each of its stages: also where it was begun without room.
 use Rattle.std.specs.Prelude.{◌≡◌, ℕ, ◌+◌, ◌≤◌, true}
-use Rattle.gh_base.specs.declared.layout.Layout.{Layout}
-use Rattle.gh_barrier.specs.declared.write_pointer.WriteStage.{WriteStage}
-use Rattle.gh_barrier.specs.declared.write_pointer.WriteStage.TheVariants.{LoadOld, ShadeOld, ShadeNew, Store, Ended}
+use Rattle.gh_barrier.specs.Vocabulary.{Ended, Layout, LoadOld, ShadeNew, ShadeOld, Store, WriteStage}
 use Rattle.gh_barrier.specs.Listing.{goes, is_busy, Writing}
 use Rattle.gh_shade.specs.declared.shade.ShadeStage.{ShadeStage}
 use Rattle.gh_shade.specs.declared.shade.ShadeStage.TheVariants.{LoadPage, SetMark}

@@ -1,23 +1,16 @@
 -- What is known at each stage of the writing of a pointer while marking is on. Others may store to the same cell at any moment: so it is never known that what was loaded stands there still, but that it does or that a value behind another's barrier has come in its place, which is marked.
 use Rattle.std.specs.Prelude.{◌≡◌, ℕ, ◌+◌, ◌≤◌, ◌⊎◌, true, Option, Some, None}
-use Rattle.gh_base.specs.declared.cell.Cell.{Cell}
-use Rattle.gh_base.specs.declared.held.Held.{Held}
-use Rattle.gh_base.specs.declared.layout.Layout.{Layout}
+use Rattle.gh_barrier.specs.Vocabulary.{Cell, Ended, Field, Global, HasPlace, Held, Layout, LoadOld, PointerCell, ShadeNew, ShadeOld, Store, WriteStage}
 use Rattle.gh_base.specs.Rows.{mark_words}
 use Rattle.gh_marks.specs.Colours.{Cycle, IsClean, IsPointer, Shared}
 use Rattle.gh_marks.specs.Moves.{BehindBarrier, Move, PutField, PutGlobal, Steps, moved}
 use Rattle.gh_marks.specs.Routines.{KeepsItsFacts}
 use Rattle.gh_marks.specs.Seats.{Hands, InHand}
-use Rattle.gh_barrier.specs.declared.pointer_cell.PointerCell.{PointerCell}
-use Rattle.gh_barrier.specs.declared.pointer_cell.PointerCell.TheVariants.{Field, Global}
-use Rattle.gh_barrier.specs.declared.write_pointer.WriteStage.{WriteStage}
-use Rattle.gh_barrier.specs.declared.write_pointer.WriteStage.TheVariants.{LoadOld, ShadeOld, ShadeNew, Store, Ended}
 use Rattle.gh_barrier.specs.Listing.{asks, cell_at, gives, goes, listing, opening, pointer_word, Writing}
 use Rattle.gh_barrier.specs.Sound.{HasTwo}
 use Rattle.gh_shade.specs.Facts.{in_hand}
 use Rattle.gh_shade.specs.Facts as shade_facts
 use Rattle.gh_shade.specs.Listing.{is_busy, object_of}
-use Rattle.gh_shade.specs.Sound.{HasPlace}
 
 -- heap word x is a pointer field of an object of the cycle
 pub record IsPointerField (s : Shared) (x : ℕ) : Type 0 where

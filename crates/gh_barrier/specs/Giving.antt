@@ -1,8 +1,6 @@
 -- The writing of a pointer gives nothing before its store.
-use Rattle.std.proofs.Common.{arith}
-use Rattle.std.specs.Prelude.{◌≡◌, ℕ, None}
-use Rattle.gh_base.specs.declared.layout.Layout.{Layout}
-use Rattle.gh_barrier.specs.declared.write_pointer.WriteStage.TheVariants.{LoadOld, ShadeOld, ShadeNew}
+use Rattle.std.proofs.Common.{arith, ◌≡◌, ℕ, None}
+use Rattle.gh_barrier.specs.Vocabulary.{Layout, LoadOld, ShadeNew, ShadeOld}
 use Rattle.gh_barrier.specs.Listing.{given, goes_at, Writing}
 use Rattle.gh_shade.specs.Listing as shade
 

@@ -4,3 +4,4 @@ pub mod Giving
 pub mod Listing
 pub mod Sound
 pub mod Within
+pub mod Vocabulary

@@ -1,19 +1,11 @@
 -- The writing of a pointer behind the write barrier: what is asked for at each stage, where that leads, and what it has given.
 use Rattle.std.specs.Prelude.{ℕ, ◌+◌, ◌-◌, ◌*◌, ◌%◌, Bool, true, ◌==◌, if◌then◌else◌, Option, Some, None, is_none}
+use Rattle.gh_barrier.specs.Vocabulary.{Cell, Ended, Held, Layout, Listing, LoadOld, PointerCell, ShadeNew, ShadeOld, Store, WritePointer, WriteStage}
 use Rattle.gh_base.specs.declared.cell.Ask.{Ask}
-use Rattle.gh_base.specs.declared.cell.Ask.TheVariants as ask
-use Rattle.gh_base.specs.declared.cell.Cell.TheVariants as cell
-use Rattle.gh_base.specs.declared.held.Held.{Held}
-use Rattle.gh_base.specs.declared.layout.Layout.{Layout}
 use Rattle.gh_base.specs.Footprints.{Footprint}
 use Rattle.gh_base.specs.Footprints as row
-use Rattle.gh_base.specs.Machines.{Listing}
 pub use Rattle.gh_barrier.specs.Sound.{cell_at}
 use Rattle.gh_barrier.specs.Sound.{SoundWriting}
-use Rattle.gh_barrier.specs.declared.pointer_cell.PointerCell.{PointerCell}
-use Rattle.gh_barrier.specs.declared.write_pointer.WritePointer.{WritePointer}
-use Rattle.gh_barrier.specs.declared.write_pointer.WriteStage.{WriteStage}
-use Rattle.gh_barrier.specs.declared.write_pointer.WriteStage.TheVariants.{LoadOld, ShadeOld, ShadeNew, Store, Ended}
 use Rattle.gh_shade.specs.declared.shade.Shaded.{Shaded}
 use Rattle.gh_shade.specs.Listing as shade
 
@@ -44,11 +36,11 @@ held_at held _ = held
 
 module _ (w : Writing) where
   abbrev pub asks_at : WriteStage → Ask
-  asks_at LoadOld = ask.Load (cell_at w.at)
+  asks_at LoadOld = Ask.Load (cell_at w.at)
   asks_at (ShadeOld sh) = shade.asks sh
   asks_at (ShadeNew sh) = shade.asks sh
-  asks_at Store = ask.Store (cell_at w.at) (pointer_word w.pointer)
-  asks_at Ended = ask.Load cell.Touch
+  asks_at Store = Ask.Store (cell_at w.at) (pointer_word w.pointer)
+  asks_at Ended = Ask.Load Cell.Touch
 
   -- the shading of what is named; nil needs none
   abbrev pub shades_new : (pointer : Option ℕ) → Writing

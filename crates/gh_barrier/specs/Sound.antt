@@ -1,25 +1,13 @@
 -- What the writing of a pointer knows of its own numbers, whatever it is told.
 use Rattle.std.specs.Prelude.{ℕ, ◌+◌, ◌≤◌, Option, Some, None}
-use Rattle.gh_base.specs.declared.cell.Cell.{Cell}
-use Rattle.gh_base.specs.declared.cell.Cell.TheVariants as cell
-use Rattle.gh_base.specs.declared.held.Held.{Held}
-use Rattle.gh_base.specs.declared.layout.Layout.{Layout}
+use Rattle.gh_barrier.specs.Vocabulary.{Cell, Field, Global, Held, InRange, IsHeld, IsReference, Layout, PointerCell, Runs, ShadeNew, ShadeOld, WritePointer, WriteStage}
 use Rattle.gh_base.specs.declared.pack.TheConstants.{ENTRIES}
-use Rattle.gh_base.specs.Cells.{InRange}
-use Rattle.gh_base.specs.Holding.{IsHeld}
-use Rattle.gh_base.specs.Machines.{Runs}
-use Rattle.gh_barrier.specs.declared.pointer_cell.PointerCell.{PointerCell}
-use Rattle.gh_barrier.specs.declared.pointer_cell.PointerCell.TheVariants.{Field, Global}
-use Rattle.gh_barrier.specs.declared.write_pointer.WritePointer.{WritePointer}
-use Rattle.gh_barrier.specs.declared.write_pointer.WriteStage.{WriteStage}
-use Rattle.gh_barrier.specs.declared.write_pointer.WriteStage.TheVariants.{ShadeOld, ShadeNew}
 use Rattle.gh_shade.specs.Listing as shade
-use Rattle.gh_shade.specs.Sound.{IsReference}
 
 -- the cell of the pointer
 abbrev pub cell_at : PointerCell → Cell
-cell_at (Field x) = cell.Field x
-cell_at (Global i) = cell.Global i
+cell_at (Field x) = Cell.Field x
+cell_at (Global i) = Cell.Global i
 
 -- nil, or a reference
 abbrev pub FitsPointer : Layout → (pointer : Option ℕ) → Type 0

@@ -1,11 +1,7 @@
 -- The writing of a pointer asks for words that there are, whatever it is told, also where it was begun without room. A caller knows this of it as long as it runs, and needs no more of its stages.
 use Rattle.std.specs.Prelude.{ℕ, Option}
-use Rattle.gh_base.specs.declared.held.Held.{Held}
-use Rattle.gh_base.specs.declared.layout.Layout.{Layout}
-use Rattle.gh_base.specs.Cells.{InRange}
-use Rattle.gh_base.specs.Holding.{IsHeld}
+use Rattle.gh_barrier.specs.Vocabulary.{Held, InRange, IsHeld, Layout, PointerCell}
 use Rattle.gh_base.specs.Steps.{cell_of}
-use Rattle.gh_barrier.specs.declared.pointer_cell.PointerCell.{PointerCell}
 use Rattle.gh_barrier.specs.Listing.{asks, cell_at, goes, held_at, opening, Writing}
 use Rattle.gh_barrier.specs.Sound.{FitsPointer, SoundWriting}
 

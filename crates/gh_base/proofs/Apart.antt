@@ -1,8 +1,6 @@
 -- A word of a layout is of one cell.
 use Rattle.std.proofs.Common.{◌≡◌, ◌<◌, true, false, arith}
-use Rattle.gh_base.specs.declared.cell.Cell.{Cell}
-use Rattle.gh_base.specs.declared.layout.Layout.{Layout}
-use Rattle.gh_base.specs.Cells.{word_of, InRange, same_cell, length_of}
+use Rattle.gh_base.proofs.Vocabulary.{Cell, InRange, Layout, length_of, same_cell, word_of}
 
 -- each word number of the layout is below its length
 pub word_below : (l : Layout) (c : Cell) → InRange l c → word_of l c < length_of l

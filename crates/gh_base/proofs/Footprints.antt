@@ -1,13 +1,8 @@
 -- Footprints: a row among those of a table, and a word that is left as it was.
 use Rattle.std.proofs.Common.{◌≡◌, ℕ, Bool, true, false, cond, not, ◌&&◌, ◌||◌, ◌==◌, if◌then◌else◌, refl, ap, subst, ◌⊎◌, inl, inr, List, [], ◌∷◌}
-use Rattle.gh_base.specs.declared.cell.Cell.{Cell}
-use Rattle.gh_base.specs.declared.cell.Cell.TheVariants as cell
-use Rattle.gh_base.specs.declared.cell.Ask.{Ask}
-use Rattle.gh_base.specs.declared.cell.Ask.TheVariants as ask
-use Rattle.gh_base.specs.Cells.{Words, put, same_cell}
+use Rattle.gh_base.proofs.Vocabulary.{Ask, Cell, effect, put, same_cell, Words}
 use Rattle.gh_base.specs.Footprints.{FootprintsHold, Footprint, RowName, Writes, all_rows, are_among, each_row, holds_at, row_of}
 use Rattle.gh_base.specs.Footprints as row
-use Rattle.gh_base.specs.Steps.{effect}
 
 first : (a b : Bool) → (a && b) ≡ true → a ≡ true
 first true b e = refl
@@ -63,41 +58,41 @@ more : (f g : Footprint) → are_among f g ≡ true → (r : RowName) → f r �
 more f g e r x = one (f r) (g r) (each (holds_at f g) each_row r e (listed r)) x
 
 among : (f g : Footprint) (step : Ask) → are_among f g ≡ true → Writes f step → Writes g step
-among f g (ask.Load c) e w = refl
-among f g (ask.Store c value) e w = more f g e (row_of c) w
-among f g (ask.Or c bits) e w = more f g e (row_of c) w
-among f g (ask.And c bits) e w = more f g e (row_of c) w
-among f g (ask.Add c n) e w = more f g e (row_of c) w
-among f g (ask.Swap c old new) e w = more f g e (row_of c) w
+among f g (Ask.Load c) e w = refl
+among f g (Ask.Store c value) e w = more f g e (row_of c) w
+among f g (Ask.Or c bits) e w = more f g e (row_of c) w
+among f g (Ask.And c bits) e w = more f g e (row_of c) w
+among f g (Ask.Add c n) e w = more f g e (row_of c) w
+among f g (Ask.Swap c old new) e w = more f g e (row_of c) w
 
 -- two cells of two rows are apart
 same_row : (c d : Cell) → same_cell c d ≡ true → row_of c ≡ row_of d
-same_row cell.Touch cell.Touch e = refl
-same_row cell.Phase cell.Phase e = refl
-same_row cell.Gen cell.Gen e = refl
-same_row cell.Begun cell.Begun e = refl
-same_row cell.Swept cell.Swept e = refl
-same_row cell.Lock cell.Lock e = refl
-same_row cell.Want cell.Want e = refl
-same_row cell.Bank cell.Bank e = refl
-same_row cell.Gcur cell.Gcur e = refl
-same_row cell.Heap cell.Heap e = refl
-same_row cell.Trigger cell.Trigger e = refl
-same_row cell.Work cell.Work e = refl
-same_row cell.Slack cell.Slack e = refl
-same_row cell.Tally cell.Tally e = refl
-same_row cell.Live cell.Live e = refl
-same_row (cell.Page i) (cell.Page k) e = refl
-same_row (cell.Alloc i) (cell.Alloc k) e = refl
-same_row (cell.Mark i) (cell.Mark k) e = refl
-same_row (cell.Bitmap i) (cell.Bitmap k) e = refl
-same_row (cell.Birth i) (cell.Birth k) e = refl
-same_row (cell.Field i) (cell.Field k) e = refl
-same_row (cell.Global i) (cell.Global k) e = refl
-same_row (cell.Buffer i) (cell.Buffer k) e = refl
-same_row (cell.Entry i j) (cell.Entry k m) e = refl
-same_row (cell.Ack i) (cell.Ack k) e = refl
-same_row (cell.Scanned i) (cell.Scanned k) e = refl
+same_row Cell.Touch Cell.Touch e = refl
+same_row Cell.Phase Cell.Phase e = refl
+same_row Cell.Gen Cell.Gen e = refl
+same_row Cell.Begun Cell.Begun e = refl
+same_row Cell.Swept Cell.Swept e = refl
+same_row Cell.Lock Cell.Lock e = refl
+same_row Cell.Want Cell.Want e = refl
+same_row Cell.Bank Cell.Bank e = refl
+same_row Cell.Gcur Cell.Gcur e = refl
+same_row Cell.Heap Cell.Heap e = refl
+same_row Cell.Trigger Cell.Trigger e = refl
+same_row Cell.Work Cell.Work e = refl
+same_row Cell.Slack Cell.Slack e = refl
+same_row Cell.Tally Cell.Tally e = refl
+same_row Cell.Live Cell.Live e = refl
+same_row (Cell.Page i) (Cell.Page k) e = refl
+same_row (Cell.Alloc i) (Cell.Alloc k) e = refl
+same_row (Cell.Mark i) (Cell.Mark k) e = refl
+same_row (Cell.Bitmap i) (Cell.Bitmap k) e = refl
+same_row (Cell.Birth i) (Cell.Birth k) e = refl
+same_row (Cell.Field i) (Cell.Field k) e = refl
+same_row (Cell.Global i) (Cell.Global k) e = refl
+same_row (Cell.Buffer i) (Cell.Buffer k) e = refl
+same_row (Cell.Entry i j) (Cell.Entry k m) e = refl
+same_row (Cell.Ack i) (Cell.Ack k) e = refl
+same_row (Cell.Scanned i) (Cell.Scanned k) e = refl
 same_row _ _ e = absurd (cc)
 
 apart : (f : Footprint) (c d : Cell) → f (row_of c) ≡ true → f (row_of d) ≡ false → same_cell c d ≡ false
@@ -114,12 +109,12 @@ swapped f words c d v true x y = kept f words c d v x y
 swapped f words c d v false x y = refl
 
 leaves : (f : Footprint) (step : Ask) (words : Words) (c : Cell) → Writes f step → f (row_of c) ≡ false → effect words step c ≡ words c
-leaves f (ask.Load d) words c w none = refl
-leaves f (ask.Store d value) words c w none = kept f words d c _ w none
-leaves f (ask.Or d bits) words c w none = kept f words d c _ w none
-leaves f (ask.And d bits) words c w none = kept f words d c _ w none
-leaves f (ask.Add d n) words c w none = kept f words d c _ w none
-leaves f (ask.Swap d old new) words c w none = swapped f words d c new (words d == old) w none
+leaves f (Ask.Load d) words c w none = refl
+leaves f (Ask.Store d value) words c w none = kept f words d c _ w none
+leaves f (Ask.Or d bits) words c w none = kept f words d c _ w none
+leaves f (Ask.And d bits) words c w none = kept f words d c _ w none
+leaves f (Ask.Add d n) words c w none = kept f words d c _ w none
+leaves f (Ask.Swap d old new) words c w none = swapped f words d c new (words d == old) w none
 
 pub footprints_hold : FootprintsHold
 footprints_hold = record { among = among; leaves = leaves }

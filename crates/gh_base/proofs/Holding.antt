@@ -1,18 +1,12 @@
 -- Who holds which buffer: steps are moves, and moves keep what others hold.
-use Rattle.std.proofs.Common.{◌≡◌, ◌≢◌, ℕ, ◌+◌, ◌-◌, ◌*◌, ◌%◌, ◌<◌, ◌≤◌, Bool, true, cond, eqb, leb, Option, Some, None, refl, sym, ap, subst, ◌∙◌, arith}
-use Rattle.std.specs.Prelude.{◌&&◌}
+use Rattle.std.proofs.Common.{◌≡◌, ◌≢◌, ℕ, ◌+◌, ◌-◌, ◌*◌, ◌%◌, ◌<◌, ◌≤◌, Bool, true, cond, eqb, leb, Option, Some, None, refl, sym, ap, subst, ◌∙◌, arith, ◌&&◌}
 use Rattle.std.proofs.lemmas.Bool.{eq-eqb}
-use Rattle.std.proofs.lemmas.Bool.Decides.{nat_tests}
-use Rattle.gh_base.specs.declared.cell.Ask.TheVariants.{Load, Store, Or, Swap}
-use Rattle.gh_base.specs.declared.cell.Cell.{Cell}
+use Rattle.gh_base.proofs.Vocabulary.{buffer_of, buffer_word, Cell, Load, nat_tests, Or, put, Row, Store, Swap, with_word, Words}
 use Rattle.gh_base.specs.declared.cell.Cell.TheVariants.{Mark, Buffer, Entry}
 use Rattle.gh_base.specs.declared.held.Held.{Held}
 use Rattle.gh_base.specs.declared.pack.TheConstants.{ENTRIES}
-use Rattle.gh_base.specs.Cells.{put, Words}
 use Rattle.gh_base.specs.Holding.{AreBuffersOf, AreCounted, Buffers, BuffersAreHeld, holder_in, HoldsBuffer, IsIt, KnowsCount, May, Move, moved, Moves, MovesKeep, StepsAreMoves, with_entry}
 use Rattle.gh_base.specs.Holding as move
-use Rattle.gh_base.specs.Packing.{buffer_of, buffer_word}
-use Rattle.gh_base.specs.Rows.{Row, with_word}
 
 same_written : (row other : Row) (b v w x : ℕ) → v ≡ w → row x ≡ other x → with_word row b v x ≡ with_word other b w x
 same_written row other b v w x e f = grind arith

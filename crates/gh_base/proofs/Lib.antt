@@ -6,3 +6,4 @@ pub mod Own
 pub mod Packing
 pub mod Showing
 pub mod Writing
+pub mod Vocabulary

@@ -1,13 +1,12 @@
 -- What is packed is read back, and fits a word.
 use Rattle.std.proofs.Common.{◌≡◌, ℕ, ◌^◌, ◌<◌, arith, refl}
-use Rattle.std.proofs.lemmas.Bool.Decides.{nat_tests}
+use Rattle.gh_base.proofs.Vocabulary.{birth_word, buffer_of, buffer_word, FitsBuffer, FitsPage, name_of, nat_tests, PackedWordsAreReadBack, page_of, page_word, phase_of, phase_word, tally_of, tally_word}
 use Rattle.gh_base.specs.declared.pack.PageWord.{PageWord}
 use Rattle.gh_base.specs.declared.pack.PageWord.TheVariants.{Free, Head, Body}
 use Rattle.gh_base.specs.declared.pack.BufferWord.{BufferWord}
 use Rattle.gh_base.specs.declared.pack.PhaseWord.{PhaseWord}
 use Rattle.gh_base.specs.declared.pack.TallyWord.{TallyWord}
 use Rattle.gh_base.specs.declared.value.Name.{Name}
-use Rattle.gh_base.specs.Packing.{page_of, page_word, FitsPage, buffer_of, buffer_word, FitsBuffer, name_of, birth_word, phase_of, phase_word, tally_of, tally_word, PackedWordsAreReadBack}
 
 pub page_of-page_word : (p : PageWord) → FitsPage p → page_of (page_word p) ≡ p
 page_of-page_word Free f = refl

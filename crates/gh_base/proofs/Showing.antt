@@ -1,14 +1,8 @@
 -- One step on the list of words is one step on the cells.
-use Rattle.std.proofs.Common.{◌≡◌, ℕ, ◌+◌, ◌^◌, ◌<◌, ◌%◌, Bool, true, false, refl, sym, cond, ap, List, length, length-set, get_or, get_or-set_same, get_or-set_other, eqb, arith}
-use Rattle.std.specs.Prelude.{bit_or, bit_and}
+use Rattle.std.proofs.Common.{◌≡◌, ℕ, ◌+◌, ◌^◌, ◌<◌, ◌%◌, Bool, true, false, refl, sym, cond, ap, List, length, length-set, get_or, get_or-set_same, get_or-set_other, eqb, arith, bit_or, bit_and}
 use Rattle.std.proofs.lemmas.List.{set-get_or}
 use Rattle.std.proofs.Math.ListN.{set}
-use Rattle.gh_base.specs.declared.cell.Cell.{Cell}
-use Rattle.gh_base.specs.declared.cell.Ask.{Ask}
-use Rattle.gh_base.specs.declared.cell.Ask.TheVariants.{Load, Store, Or, And, Add, Swap}
-use Rattle.gh_base.specs.declared.layout.Layout.{Layout}
-use Rattle.gh_base.specs.Cells.{word_of, InRange, same_cell, Words, put, ShowsCells}
-use Rattle.gh_base.specs.Steps.{cell_of, effect, request, changed, target, left}
+use Rattle.gh_base.proofs.Vocabulary.{Add, And, Ask, Cell, cell_of, changed, effect, InRange, Layout, left, Load, Or, put, request, same_cell, ShowsCells, Store, Swap, target, word_of, Words}
 use Rattle.gh_base.proofs.Apart.{word_below, words_apart, same_cell_tells}
 
 each_put : (l : Layout) (list : List ℕ) (words : Words) (c : Cell) (value : ℕ) → InRange l c → ShowsCells l list words →

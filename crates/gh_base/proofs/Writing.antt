@@ -1,13 +1,9 @@
 -- A row with one word written, and its bits; cells told apart.
-use Rattle.std.proofs.Common.{◌≡◌, ◌≢◌, ℕ, ◌/◌, ◌%◌, ◌^◌, ◌<◌, Bool, true, false, cond, eqb, refl, sym, ap, ◌∙◌, arith}
-use Rattle.std.specs.Prelude.{bit_or, max}
+use Rattle.std.proofs.Common.{◌≡◌, ◌≢◌, ℕ, ◌/◌, ◌%◌, ◌^◌, ◌<◌, Bool, true, false, cond, eqb, refl, sym, ap, ◌∙◌, arith, bit_or, max}
 use Rattle.std.specs.Int.{bit_at}
 use Rattle.std.proofs.lemmas.Nat.Bits.{bit_at_or, bit_at-lt, bit_at-pow_same, bit_at-pow_other}
 use Rattle.std.proofs.lemmas.Bool.{eqb-true, eq-eqb}
-use Rattle.std.proofs.lemmas.Bool.Decides.{nat_tests}
-use Rattle.gh_base.specs.declared.cell.Cell.{Cell}
-use Rattle.gh_base.specs.Cells.{same_cell}
-use Rattle.gh_base.specs.Rows.{CellsAreTold, Row, row_bit, RowsAreWritten, with_word}
+use Rattle.gh_base.proofs.Vocabulary.{Cell, CellsAreTold, nat_tests, Row, row_bit, RowsAreWritten, same_cell, with_word}
 use Rattle.gh_base.proofs.Apart.{same_cell_tells}
 
 here : (row : Row) (i v : ℕ) → with_word row i v i ≡ v

@@ -1,7 +1,6 @@
 -- Cells, where they lie among the words of a layout, and what they hold.
 use Rattle.std.specs.Prelude.{◌≡◌, ℕ, ◌+◌, ◌*◌, ◌/◌, ◌<◌, Bool, true, false, ◌==◌, ◌&&◌, if◌then◌else◌, List, length, slice_index}
-use Rattle.gh_base.specs.declared.cell.Cell.{Cell}
-use Rattle.gh_base.specs.declared.cell.Cell.TheVariants.{Touch, Phase, Gen, Begun, Swept, Lock, Want, Bank, Gcur, Heap, Trigger, Work, Slack, Tally, Live, Page, Alloc, Mark, Bitmap, Birth, Field, Global, Buffer, Entry, Ack, Scanned}
+use Rattle.gh_base.specs.Vocabulary.{Ack, Alloc, Bank, Begun, Birth, Bitmap, Buffer, Cell, Entry, Field, Gcur, Gen, Global, Heap, Live, Lock, Mark, Page, Phase, Scanned, Slack, Swept, Tally, Touch, Trigger, Want, Work}
 use Rattle.gh_base.specs.declared.layout.Layout.{Layout}
 
 -- the layout has these numbers

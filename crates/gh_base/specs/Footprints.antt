@@ -1,9 +1,6 @@
 -- Footprints: which rows of the words a routine writes. What is written is among the rows of a table, so every word of another row stays as it is.
 use Rattle.std.specs.Prelude.{◌≡◌, ℕ, Bool, true, false, not, ◌&&◌, ◌||◌, List, [], ◌∷◌}
-use Rattle.gh_base.specs.declared.cell.Cell.{Cell}
-use Rattle.gh_base.specs.declared.cell.Cell.TheVariants as cell
-use Rattle.gh_base.specs.declared.cell.Ask.{Ask}
-use Rattle.gh_base.specs.declared.cell.Ask.TheVariants as ask
+use Rattle.gh_base.specs.Vocabulary.{Ask, Cell}
 use Rattle.gh_base.specs.Cells.{Words}
 use Rattle.gh_base.specs.Steps.{effect}
 
@@ -37,32 +34,32 @@ pub data RowName : Type 0 where
   Scanned : RowName
 
 abbrev pub row_of : Cell → RowName
-row_of cell.Touch = Touch
-row_of cell.Phase = Phase
-row_of cell.Gen = Gen
-row_of cell.Begun = Begun
-row_of cell.Swept = Swept
-row_of cell.Lock = Lock
-row_of cell.Want = Want
-row_of cell.Bank = Bank
-row_of cell.Gcur = Gcur
-row_of cell.Heap = Heap
-row_of cell.Trigger = Trigger
-row_of cell.Work = Work
-row_of cell.Slack = Slack
-row_of cell.Tally = Tally
-row_of cell.Live = Live
-row_of (cell.Page i) = Page
-row_of (cell.Alloc i) = Alloc
-row_of (cell.Mark i) = Mark
-row_of (cell.Bitmap i) = Bitmap
-row_of (cell.Birth i) = Birth
-row_of (cell.Field i) = Field
-row_of (cell.Global i) = Global
-row_of (cell.Buffer i) = Buffer
-row_of (cell.Entry i j) = Entry
-row_of (cell.Ack i) = Ack
-row_of (cell.Scanned i) = Scanned
+row_of Cell.Touch = Touch
+row_of Cell.Phase = Phase
+row_of Cell.Gen = Gen
+row_of Cell.Begun = Begun
+row_of Cell.Swept = Swept
+row_of Cell.Lock = Lock
+row_of Cell.Want = Want
+row_of Cell.Bank = Bank
+row_of Cell.Gcur = Gcur
+row_of Cell.Heap = Heap
+row_of Cell.Trigger = Trigger
+row_of Cell.Work = Work
+row_of Cell.Slack = Slack
+row_of Cell.Tally = Tally
+row_of Cell.Live = Live
+row_of (Cell.Page i) = Page
+row_of (Cell.Alloc i) = Alloc
+row_of (Cell.Mark i) = Mark
+row_of (Cell.Bitmap i) = Bitmap
+row_of (Cell.Birth i) = Birth
+row_of (Cell.Field i) = Field
+row_of (Cell.Global i) = Global
+row_of (Cell.Buffer i) = Buffer
+row_of (Cell.Entry i j) = Entry
+row_of (Cell.Ack i) = Ack
+row_of (Cell.Scanned i) = Scanned
 
 -- some rows
 abbrev pub Footprint : Type 0
@@ -70,12 +67,12 @@ Footprint = RowName → Bool
 
 -- the step loads, or is on one of these rows: it is computed, so that a proof of it is `refl` at each stage
 abbrev pub writes_in : Footprint → Ask → Bool
-writes_in f (ask.Load c) = true
-writes_in f (ask.Store c value) = f (row_of c)
-writes_in f (ask.Or c bits) = f (row_of c)
-writes_in f (ask.And c bits) = f (row_of c)
-writes_in f (ask.Add c more) = f (row_of c)
-writes_in f (ask.Swap c old new) = f (row_of c)
+writes_in f (Ask.Load c) = true
+writes_in f (Ask.Store c value) = f (row_of c)
+writes_in f (Ask.Or c bits) = f (row_of c)
+writes_in f (Ask.And c bits) = f (row_of c)
+writes_in f (Ask.Add c more) = f (row_of c)
+writes_in f (Ask.Swap c old new) = f (row_of c)
 
 abbrev pub Writes : Footprint → Ask → Type 0
 Writes f step = writes_in f step ≡ true

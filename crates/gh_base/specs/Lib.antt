@@ -13,3 +13,4 @@ pub mod Routines
 pub mod Rows
 pub mod Shapes
 pub mod Steps
+pub mod Vocabulary

@@ -1,8 +1,6 @@
 -- Rows of words by index, and rows that have a bit for each heap word.
 use Rattle.std.specs.Prelude.{◌≡◌, ◌≢◌, ℕ, ◌/◌, ◌%◌, ◌^◌, true, false, ◌==◌, if◌then◌else◌, bit_or, ◌↔◌}
-use Rattle.std.specs.Int.{bit_at}
-use Rattle.gh_base.specs.declared.cell.Cell.{Cell}
-use Rattle.gh_base.specs.declared.cell.Cell.TheVariants.{Page, Alloc, Mark, Bitmap, Birth, Field, Global, Buffer}
+use Rattle.gh_base.specs.Vocabulary.{Alloc, Birth, bit_at, Bitmap, Buffer, Cell, Field, Global, Mark, Page}
 use Rattle.gh_base.specs.Cells.{put, same_cell, Words}
 
 -- what a row holds, by index

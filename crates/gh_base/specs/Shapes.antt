@@ -1,6 +1,6 @@
 -- The shapes of types.
 use Rattle.std.specs.Prelude.{◌≡◌, ℕ, ◌/◌, ◌%◌, ◌<◌, ◌≤◌, ◌↔◌, Bool, true, false, List, [], ◌==◌, length, slice_index, slice_index_or}
-use Rattle.std.specs.Int.{bit_at}
+use Rattle.gh_base.specs.Vocabulary.{bit_at}
 use Rattle.gh_base.specs.declared.shape.Shape.{Shape}
 use Rattle.gh_class.specs.declared.class.TheConstants.{MOST_TYPE_WORDS}
 

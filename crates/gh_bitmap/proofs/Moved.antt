@@ -1,8 +1,7 @@
 -- Bits moved by a number of places fit a word.
 use Rattle.std.proofs.Common.{◌≡◌, ℕ, ◌+◌, ◌-◌, ◌*◌, ◌/◌, ◌%◌, ◌^◌, ◌<◌, ◌≤◌, sym, ◌∙◌, ap, subst, arith, add-zero}
-use Rattle.std.proofs.Math.Nat.{mul-mod_left, div-eq_of_lt, div-lt_iff_lt-mul, mod-lt, mul_comm}
-use Rattle.std.proofs.Math.Pow.{pow_mono}
-use Rattle.std.proofs.lemmas.Nat.{mod-pow-add, pow-add, pow_pos, mul-add-lt}
+use Rattle.std.proofs.lemmas.Nat.{pow-add, pow_pos, mul-add-lt}
+use Rattle.gh_bitmap.proofs.Vocabulary.{div-eq_of_lt, div-lt_iff_lt-mul, mod-lt, mod-pow-add, mul-mod_left, mul_comm, pow_mono}
 
 pub powers_apart : (low high : ℕ) → low ≤ high → high ≤ 64 → (2 ^ low ≤ 2 ^ high) × (2 ^ high ≤ 2 ^ 64)
 powers_apart low high h k = (pow_mono {i = low} {j = high} h, pow_mono {i = high} {j = 64} k)

@@ -1,14 +1,11 @@
 -- Its own steps are moves that the claim of the slot allows, and what it knows lasts. Of the heap it is known what the laws of gh_heap say.
 use Rattle.std.proofs.Common.{◌≡◌, ℕ, ◌+◌, ◌-◌, ◌*◌, ◌/◌, ◌%◌, ◌^◌, ◌<◌, ◌≤◌, ◌⊎◌, Bool, true, false, cond, eqb, ltb, Option, refl, sym, ap, subst, ◌∙◌, arith, bit_and, bit_or, eqb-true, eq-eqb, ltb-true, ltb-false}
-use Rattle.std.specs.Int.{bit_at}
-use Rattle.std.proofs.Math.Nat.{mod-lt}
-use Rattle.gh_base.specs.declared.cell.Cell.TheVariants as cell
+use Rattle.gh_bitmap.proofs.Vocabulary.{asks, at_stage, bit, bit_at, bitmap_words, Cell, cell_of, Clear, EachStepIsOnItsBits, Ended, FitsSlot, given, given_at, goes, is_pointer, IsHere, mod-lt, next_stage, pointer_bits, PointerSetting, put, Row, row_bit, Set, SetStage, slot_bits, StepsOn, Touches, word_at}
 use Rattle.gh_heap.specs.Laws.{EachFactLasts, EachRightFollows, TheHeapIsApart}
 use Rattle.gh_heap.specs.Moves.{KeepsOthers, Others, SetBits, Steps, moved}
 use Rattle.gh_heap.specs.Rights.{Arena, Claims, Good, Right, Shared, View, view}
 use Rattle.gh_heap.specs.Spans.{Laying}
 use Rattle.gh_bitmap.specs.Facts.{ClearIn, Comes, Facts, FactsAt, Lasts, Opens, OwnStep, SetsByItsRights, ToldBelow, Within}
-use Rattle.gh_bitmap.proofs.Vocabulary.{asks, at_stage, bit, bitmap_words, cell_of, Clear, EachStepIsOnItsBits, Ended, FitsSlot, given, given_at, goes, is_pointer, IsHere, next_stage, pointer_bits, PointerSetting, put, Row, row_bit, Set, SetStage, slot_bits, StepsOn, Touches, word_at}
 
 pub record Known : Type 0 where
   pub last : EachFactLasts
@@ -75,9 +72,9 @@ module _ (k : Known) (z : Arena) (a : ℕ) (s : Shared) (l : Bool) (held : ℕ �
   goes-on i word shape some claim begins told false t = (claim, λ j few low. told j few (omega (arith, ltb-false (64 * (i + 1)) (m.at + m.slot) t)))
 
   -- no bit of another slot is changed
-  keeps : (i word : ℕ) → ((x : ℕ) → (IsHere m i x → ⊥) → row_bit (bitmap_words (put s.words (cell.Bitmap (word_at z.layout i)) word)) x ≡ row_bit now.bitmap x) → KeepsOthers now.bitmap m.at m.slot (word_at z.layout i) word
+  keeps : (i word : ℕ) → ((x : ℕ) → (IsHere m i x → ⊥) → row_bit (bitmap_words (put s.words (Cell.Bitmap (word_at z.layout i)) word)) x ≡ row_bit now.bitmap x) → KeepsOthers now.bitmap m.at m.slot (word_at z.layout i) word
   unfolding row_bit
-  keeps i word others x at out = sym (ap (λ (b : Bool). bit_at (cond b word (s.words (cell.Bitmap (x / 64)))) (x % 64)) (ap (λ (n : ℕ). eqb (word_at z.layout i) n) at ∙ eq-eqb (word_at z.layout i) (word_at z.layout i) refl)) ∙ others x (not-here m i x out)
+  keeps i word others x at out = sym (ap (λ (b : Bool). bit_at (cond b word (s.words (Cell.Bitmap (x / 64)))) (x % 64)) (ap (λ (n : ℕ). eqb (word_at z.layout i) n) at ∙ eq-eqb (word_at z.layout i) (word_at z.layout i) refl)) ∙ others x (not-here m i x out)
 
   on-bits : (i : ℕ) → Good z now → FitsSlot m.shape m.slot → 0 < m.slot → Claims z now a m.at m.slot → Touches m.at m.slot i → StepsOn z.layout m i s.words
   on-bits i g shape some claim touches =
@@ -93,7 +90,7 @@ module _ (k : Known) (z : Arena) (a : ℕ) (s : Shared) (l : Bool) (held : ℕ �
     after = (refl, (k.follow z a s l held y right).pointed m.at m.slot (word_at z.layout i) word, go (eqb (pointer_bits m.shape m.at i) 0) refl);
   } where
     word : ℕ
-    word = bit_and (s.words (cell.Bitmap (word_at z.layout i))) (2 ^ 64 - 1 - slot_bits m.at m.slot i)
+    word = bit_and (s.words (Cell.Bitmap (word_at z.layout i))) (2 ^ 64 - 1 - slot_bits m.at m.slot i)
 
     law : StepsOn z.layout m i s.words
     law = on-bits i g x.shape x.some x.claim x.stage.0
@@ -117,7 +114,7 @@ module _ (k : Known) (z : Arena) (a : ℕ) (s : Shared) (l : Bool) (held : ℕ �
     after = (refl, (k.follow z a s l held y right).pointed m.at m.slot (word_at z.layout i) word, goes-on i word x.shape x.some x.claim x.stage.0.begins (told-more m (view (then_at i word)).bitmap i told here) (ltb (64 * (i + 1)) (m.at + m.slot)) refl);
   } where
     word : ℕ
-    word = bit_or (s.words (cell.Bitmap (word_at z.layout i))) (pointer_bits m.shape m.at i)
+    word = bit_or (s.words (Cell.Bitmap (word_at z.layout i))) (pointer_bits m.shape m.at i)
 
     law : StepsOn z.layout m i s.words
     law = on-bits i g x.shape x.some x.claim x.stage.0

@@ -1,7 +1,6 @@
 -- The bits of the bitmap: which are a slot's, and which a type's pointer fields are.
 use Rattle.std.specs.Prelude.{ℕ, ◌+◌, ◌-◌, ◌*◌, ◌/◌, ◌%◌, ◌^◌, nat_lt, if◌then◌else◌, max, min}
-use Rattle.gh_base.specs.declared.shape.Shape.{Shape}
-use Rattle.gh_base.specs.Shapes.{bits_at}
+use Rattle.gh_bitmap.specs.Vocabulary.{bits_at, Shape}
 -- a row of words, and the bit of a heap word in it
 pub use Rattle.gh_base.specs.Rows.{Row, pointer_bit, row_bit}
 

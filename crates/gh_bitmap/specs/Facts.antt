@@ -1,15 +1,9 @@
 -- What is known while the pointer bits of a claimed slot are set and any number of processors change the heap; what each step of its own is, that it is on a word that there is, and that what is known lasts whatever others do.
 use Rattle.std.specs.Prelude.{◌≡◌, ℕ, ◌+◌, ◌*◌, ◌/◌, ◌<◌, Bool, Option, Some, None}
-use Rattle.gh_base.specs.Cells.{InRange}
-use Rattle.gh_base.specs.Packing.{bit}
-use Rattle.gh_base.specs.Rows.{Row, row_bit}
-use Rattle.gh_base.specs.Shapes.{is_pointer}
-use Rattle.gh_base.specs.Steps.{cell_of}
+use Rattle.gh_bitmap.specs.Vocabulary.{bit, cell_of, Clear, Ended, InRange, is_pointer, Row, row_bit, Set, SetStage}
 use Rattle.gh_heap.specs.Moves.{Others, Steps}
 use Rattle.gh_heap.specs.Rights.{Arena, Claims, Good, Right, Shared, View, view}
 use Rattle.gh_heap.specs.Spans.{Laying}
-use Rattle.gh_bitmap.specs.declared.set_pointers.SetStage.{SetStage}
-use Rattle.gh_bitmap.specs.declared.set_pointers.SetStage.TheVariants.{Clear, Set, Ended}
 use Rattle.gh_bitmap.specs.SetPointers.{PointerSetting, asks, given, goes}
 use Rattle.gh_bitmap.specs.Sound.{Touches}
 use Rattle.gh_bitmap.specs.Stepping.{FitsSlot}

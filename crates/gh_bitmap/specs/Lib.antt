@@ -5,3 +5,4 @@ pub mod ReadPointer
 pub mod SetPointers
 pub mod Sound
 pub mod Stepping
+pub mod Vocabulary

@@ -1,17 +1,8 @@
 -- What the routines do, run from their beginning to their end with no other actor's step between.
 use Rattle.std.specs.Prelude.{◌≡◌, ◌≢◌, ℕ, ◌+◌, ◌*◌, ◌/◌, ◌<◌, ◌≤◌, ◌⊎◌, ◌==◌, Some}
+use Rattle.gh_bitmap.specs.Vocabulary.{bit, Bitmap, cell_of, is_pointer, Layout, Load, pointer_bit, Shape, steps_of, Words}
 use Rattle.gh_base.specs.declared.cell.Cell.{Cell}
-use Rattle.gh_base.specs.declared.cell.Cell.TheVariants.{Bitmap}
-use Rattle.gh_base.specs.declared.cell.Ask.TheVariants.{Load}
-use Rattle.gh_base.specs.declared.layout.Layout.{Layout}
-use Rattle.gh_base.specs.declared.shape.Shape.{Shape}
-use Rattle.gh_base.specs.Cells.{Words}
-use Rattle.gh_base.specs.Packing.{bit}
-use Rattle.gh_base.specs.Machines.{steps_of}
 use Rattle.gh_base.specs.Routines.{Leaves}
-use Rattle.gh_base.specs.Rows.{pointer_bit}
-use Rattle.gh_base.specs.Shapes.{is_pointer}
-use Rattle.gh_base.specs.Steps.{cell_of}
 use Rattle.gh_bitmap.specs.ReadPointer as reading
 use Rattle.gh_bitmap.specs.SetPointers as setting
 use Rattle.gh_bitmap.specs.Stepping.{FitsSlot}

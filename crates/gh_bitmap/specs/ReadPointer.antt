@@ -1,11 +1,7 @@
 -- A pointer bit is read: what is asked for at each stage, where that leads, what it has given, and that it writes nothing.
 use Rattle.std.specs.Prelude.{ℕ, ◌*◌, ◌/◌, ◌%◌, Bool, false, ◌==◌, Option, Some, None}
 use Rattle.std.specs.Int.{bit_at}
-use Rattle.gh_base.specs.declared.cell.Cell.TheVariants.{Touch, Bitmap}
-use Rattle.gh_base.specs.declared.cell.Ask.{Ask}
-use Rattle.gh_base.specs.declared.cell.Ask.TheVariants as ask
-use Rattle.gh_base.specs.declared.layout.Layout.{Layout}
-use Rattle.gh_base.specs.Machines.{Listing}
+use Rattle.gh_bitmap.specs.Vocabulary.{Ask, Bitmap, Layout, Listing, Touch}
 use Rattle.gh_bitmap.specs.declared.read_pointer.ReadPointer.{ReadPointer}
 use Rattle.gh_bitmap.specs.declared.read_pointer.ReadStage.{ReadStage}
 use Rattle.gh_bitmap.specs.declared.read_pointer.ReadStage.TheVariants.{Load, Ended}
@@ -21,8 +17,8 @@ abbrev pub opening : ℕ → PointerReading
 opening at = record { at = at; stage = Load }
 
 abbrev pub asks_at : Layout → PointerReading → ReadStage → Ask
-asks_at l r Load = ask.Load (Bitmap (r.at / 64 % (16 * l.pages)))
-asks_at l r (Ended pointer) = ask.Load Touch
+asks_at l r Load = Ask.Load (Bitmap (r.at / 64 % (16 * l.pages)))
+asks_at l r (Ended pointer) = Ask.Load Touch
 
 -- the bit of the heap word in the word that was found
 abbrev pub goes_at : PointerReading → ReadStage → ℕ → ReadStage

@@ -1,15 +1,8 @@
 -- The pointer bits of a slot are set: what is asked for at each stage, where that leads, what it has given, and that it writes the bitmap.
 use Rattle.std.specs.Prelude.{ℕ, ◌+◌, ◌-◌, ◌*◌, ◌/◌, ◌%◌, ◌^◌, true, false, nat_lt, ◌==◌, if◌then◌else◌, Option, Some, None}
-use Rattle.gh_base.specs.declared.cell.Cell.TheVariants.{Touch, Bitmap}
-use Rattle.gh_base.specs.declared.cell.Ask.{Ask}
-use Rattle.gh_base.specs.declared.cell.Ask.TheVariants.{Load, Or, And}
-use Rattle.gh_base.specs.declared.layout.Layout.{Layout}
-use Rattle.gh_base.specs.declared.shape.Shape.{Shape}
+use Rattle.gh_bitmap.specs.Vocabulary.{And, Ask, Bitmap, Clear, Ended, Layout, Listing, Load, Or, Set, SetStage, Shape, Touch}
 use Rattle.gh_base.specs.Footprints.{Footprint}
 use Rattle.gh_base.specs.Footprints as row
-use Rattle.gh_base.specs.Machines.{Listing}
-use Rattle.gh_bitmap.specs.declared.set_pointers.SetStage.{SetStage}
-use Rattle.gh_bitmap.specs.declared.set_pointers.SetStage.TheVariants.{Clear, Set, Ended}
 use Rattle.gh_bitmap.specs.Bits.{pointer_bits, slot_bits}
 pub use Rattle.gh_bitmap.specs.Sound.{PointerSetting}
 use Rattle.gh_bitmap.specs.Sound.{Sound}

@@ -1,9 +1,6 @@
 -- What the routine that sets pointer bits knows of its own numbers, whatever it is told.
 use Rattle.std.specs.Prelude.{ℕ, ◌+◌, ◌*◌, ◌/◌, ◌<◌, ◌≤◌}
-use Rattle.gh_base.specs.declared.layout.Layout.{Layout}
-use Rattle.gh_base.specs.declared.shape.Shape.{Shape}
-use Rattle.gh_bitmap.specs.declared.set_pointers.SetStage.{SetStage}
-use Rattle.gh_bitmap.specs.declared.set_pointers.SetStage.TheVariants.{Clear, Set, Ended}
+use Rattle.gh_bitmap.specs.Vocabulary.{Clear, Ended, Layout, Set, SetStage, Shape}
 
 -- a routine that sets pointer bits: of which shape, for the slot at which heap word and of how many words, and its stage
 pub record PointerSetting : Type 0 where

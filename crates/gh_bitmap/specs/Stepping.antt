@@ -1,13 +1,6 @@
 -- What single steps do to the bits.
 use Rattle.std.specs.Prelude.{◌≡◌, ℕ, ◌+◌, ◌-◌, ◌*◌, ◌/◌, ◌^◌, ◌<◌, ◌≤◌, false}
-use Rattle.gh_base.specs.Cells.{Words}
-use Rattle.gh_base.specs.Packing.{bit}
-use Rattle.gh_base.specs.Rows.{pointer_bit}
-use Rattle.gh_base.specs.Steps.{effect}
-use Rattle.gh_base.specs.declared.layout.Layout.{Layout}
-use Rattle.gh_base.specs.declared.shape.Shape.{Shape}
-use Rattle.gh_base.specs.Shapes.{bits_at, is_pointer}
-use Rattle.gh_bitmap.specs.declared.set_pointers.SetStage.TheVariants.{Clear, Set}
+use Rattle.gh_bitmap.specs.Vocabulary.{bit, bits_at, Clear, effect, is_pointer, Layout, pointer_bit, Set, Shape, Words}
 use Rattle.gh_bitmap.specs.Bits.{pointer_bits}
 use Rattle.gh_bitmap.specs.SetPointers.{PointerSetting, asks_at}
 use Rattle.gh_bitmap.specs.Sound.{Touches}

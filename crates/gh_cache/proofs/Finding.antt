@@ -1,10 +1,9 @@
 -- After each load the routine looks at the next slot, or has ended.
 use Rattle.std.proofs.Common.{◌≡◌, ℕ, zero, suc, ◌+◌, ◌<◌, ◌⊎◌, Bool, false, cond, ltb, Some, None, is_none, refl, sym, ap, subst, ◌∙◌, arith, inl, inr}
+use Rattle.gh_cache.proofs.Vocabulary.{asks, Cached, Ended, FitsArena, given, given_at, goes, goes_at, is_clear, Layout, Look, opening, Searching, slots_of, SlotStage}
 use Rattle.gh_base.specs.declared.cell.Cell.TheVariants.{Alloc}
 use Rattle.gh_base.specs.declared.cell.Ask.TheVariants.{Load}
-use Rattle.gh_cache.specs.Sound.{FitsArena}
 use Rattle.gh_cache.specs.NextClear.{AreTaken, FindsNextClear, GoesOn, IsNextClear, told}
-use Rattle.gh_cache.proofs.Vocabulary.{asks, Cached, Ended, given, given_at, goes, goes_at, is_clear, Layout, Look, opening, Searching, slots_of, SlotStage}
 use Rattle.gh_cache.proofs.Slots.{IsCut, slot_word}
 
 module _ (l : Layout) (span : Cached) (found : ℕ → ℕ) where

@@ -1,19 +1,18 @@
 -- Its own steps change nothing, and what it knows lasts. Of the heap it is known what the laws of gh_heap say.
 use Rattle.std.proofs.Common.{◌≡◌, ◌≢◌, ℕ, ◌+◌, ◌*◌, ◌/◌, ◌%◌, ◌<◌, ◌≤◌, Bool, true, false, cond, eqb, ltb, inl, inr, Option, Some, None, refl, sym, ap, subst, ◌∙◌, arith, eqb-true, ltb-true, ltb-false}
-use Rattle.std.proofs.Math.Nat.{mod-eq_of_lt, mod-lt}
 use Rattle.std.proofs.lemmas.Bool.{eqb-false}
-use Rattle.std.proofs.lemmas.Bool.Decides.{eqb_tells}
-use Rattle.gh_base.specs.declared.cell.Cell.TheVariants as cell
+use Rattle.std.specs.Int.{bit_at}
+use Rattle.std.proofs.lemmas.Nat.Bits.{bit_at-lt}
+use Rattle.gh_cache.proofs.Vocabulary.{alloc_word, asks, at_stage, Cached, Ended, eqb_tells, given, given_at, goes, goes_at, IsSizeClass, Look, mod-eq_of_lt, mod-lt, passed, Searching, slot_at, slot_of, slot_words_of, slots_of, SlotStage}
+use Rattle.gh_base.specs.declared.cell.Cell.{Cell}
 use Rattle.gh_base.specs.Rows.{row_bit}
 use Rattle.gh_base.specs.Steps.{cell_of}
 use Rattle.gh_class.specs.declared.class.SizeClass.{SizeClass}
-use Rattle.gh_class.specs.declared.class.SizeClass.TheVariants as size
 use Rattle.gh_heap.specs.Laws.{TheHeapIsApart}
 use Rattle.gh_heap.specs.Moves.{KeepsObjects, Others, Quiet, Steps}
 use Rattle.gh_heap.specs.Rights.{Arena, Good, Right, Shared, View, view}
 use Rattle.gh_heap.specs.Spans.{IsFull, IsSlotOf, Laying, is_own_class, number_of_class, owner_at, owner_in, slot_size}
 use Rattle.gh_cache.specs.Facts.{Comes, Facts, Lasts, OwnStep, SearchesByItsRights, SpanIsHeld, TakenBelow, Within}
-use Rattle.gh_cache.proofs.Vocabulary.{alloc_word, asks, at_stage, bit_at, bit_at-lt, Cached, Ended, given, given_at, goes, goes_at, IsSizeClass, Look, passed, Searching, slot_at, slot_of, slot_words_of, slots_of, SlotStage}
 
 pub record Known : Type 0 where
   pub apart : TheHeapIsApart
@@ -39,10 +38,10 @@ lasts z a v w noscan m g o x = record {
   number : x.span.h.number ≡ v.generation
   number = (g.numbers m.span.head x.span.h x.span.head).owned (λ none. let is : owner_at v.page m.span.head ≡ x.span.h.owner = ap owner_in x.span.head in omega (arith, (g.owners a m.span.head).1 x.span.held, is, none))
 
-  slot : (j : ℕ) (f : SizeClass) → f ≡ size.Small m.span.class → 1024 * m.span.head + j * cond (is_own_class f) (1024 * x.span.h.pages) (slot_of (number_of_class f) / 8) ≡ slot_at m.span j
+  slot : (j : ℕ) (f : SizeClass) → f ≡ SizeClass.Small m.span.class → 1024 * m.span.head + j * cond (is_own_class f) (1024 * x.span.h.pages) (slot_of (number_of_class f) / 8) ≡ slot_at m.span j
   slot j f e = rw (e) refl
 
-  count : (j : ℕ) (f : SizeClass) → f ≡ size.Small m.span.class → j < slots_of m.span.class → j < cond (is_own_class f) 1 (slots_of (number_of_class f))
+  count : (j : ℕ) (f : SizeClass) → f ≡ SizeClass.Small m.span.class → j < slots_of m.span.class → j < cond (is_own_class f) 1 (slots_of (number_of_class f))
   count j f e lt = rw (e) lt
 
   still : (j : ℕ) → (j < m.span.cursor → row_bit v.alloc (slot_at m.span j) ≡ 1) → j < m.span.cursor → row_bit w.alloc (slot_at m.span j) ≡ 1
@@ -67,7 +66,7 @@ module _ (k : Known) (z : Arena) (a : ℕ) (v : View) (noscan : Bool) (m : Searc
       let below : m.span.class < 25 = class_below x.h.class m.span.class x.class span.fits.class in
       let inside = (k.apart z v g).inside m.span.head j (slot_at m.span j) (slot_words_of m.span.class) 0 x.h (slot_is j g x few) (omega (arith, k.least_slot m.span.class below)) in
       mod-eq_of_lt (omega (arith, inside.1, span.within)) where
-        class_below : (class : SizeClass) (c : ℕ) → class ≡ size.Small c → IsSizeClass class → c < 25
+        class_below : (class : SizeClass) (c : ℕ) → class ≡ SizeClass.Small c → IsSizeClass class → c < 25
         class_below class c e fits = subst IsSizeClass e fits
 
   -- the slot at the cursor is taken: so are those before the next
@@ -116,7 +115,7 @@ own-at k z a s l held y noscan m Look e g right x = record {
   move = Quiet (asks z.layout (at_stage m Look));
   may = tt;
   words_are = refl;
-  after = ((refl, refl), record { locked = right.locked; holds = right.holds; laying = right.laying; freeing = right.freeing }, looked k z a (view s) noscan (at_stage m Look) (s.words (cell.Alloc (alloc_word z.layout (slot_at m.span m.span.cursor)))) (ap (λ (i : ℕ). bit_at (s.words (cell.Alloc i)) (slot_at m.span m.span.cursor % 64)) (word_is k z a (view s) noscan (at_stage m Look) m.span.cursor g x.span x.cursor)) g x);
+  after = ((refl, refl), record { locked = right.locked; holds = right.holds; laying = right.laying; freeing = right.freeing }, looked k z a (view s) noscan (at_stage m Look) (s.words (Cell.Alloc (alloc_word z.layout (slot_at m.span m.span.cursor)))) (ap (λ (i : ℕ). bit_at (s.words (Cell.Alloc i)) (slot_at m.span m.span.cursor % 64)) (word_is k z a (view s) noscan (at_stage m Look) m.span.cursor g x.span x.cursor)) g x);
 }
 own-at k z a s l held y noscan m (Ended slot) e g right x = absurd (cc)
 

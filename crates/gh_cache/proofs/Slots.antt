@@ -1,11 +1,6 @@
 -- The slots of a span in the arena lie in the arena.
 use Rattle.std.proofs.Common.{◌≡◌, ℕ, suc, ◌+◌, ◌*◌, ◌/◌, ◌%◌, ◌<◌, ◌≤◌, subst, arith}
-use Rattle.std.proofs.Math.Nat.{mod-eq_of_lt, mul-le-mul_right}
-use Rattle.gh_base.specs.declared.layout.Layout.{Layout}
-use Rattle.gh_class.specs.Classes.{pages_of, slot_of, slots_of}
-use Rattle.gh_cache.specs.declared.next_slot.Cached.{Cached}
-use Rattle.gh_cache.specs.Listing.{alloc_word, slot_at}
-use Rattle.gh_cache.specs.Sound.{FitsArena}
+use Rattle.gh_cache.proofs.Vocabulary.{alloc_word, Cached, FitsArena, Layout, mod-eq_of_lt, mul-le-mul_right, pages_of, slot_at, slot_of, slots_of}
 
 -- a slot has whole words, one at least, and a span has as many slots as its pages hold
 pub record IsCut (class : ℕ) : Type 0 where

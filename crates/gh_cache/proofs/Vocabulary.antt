@@ -1,9 +1,7 @@
--- The names that files of proofs with many imports share.
-pub use Rattle.std.proofs.lemmas.Nat.Bits.{bit_at-lt}
-pub use Rattle.std.specs.Int.{bit_at}
-pub use Rattle.gh_class.specs.Classes.{IsSizeClass, slot_of, slot_words_of, slots_of}
-pub use Rattle.gh_base.specs.declared.layout.Layout.{Layout}
-pub use Rattle.gh_cache.specs.Listing.{alloc_word, asks, asks_at, at_stage, given, given_at, goes, goes_at, has_next_slot, is_clear, is_found, listing, opening, passed, Searching, slot_at}
-pub use Rattle.gh_cache.specs.declared.next_slot.Cached.{Cached}
-pub use Rattle.gh_cache.specs.declared.next_slot.SlotStage.{SlotStage}
-pub use Rattle.gh_cache.specs.declared.next_slot.SlotStage.TheVariants.{Ended, Look}
+-- The names that several files of proofs/ share.
+pub use Rattle.std.proofs.Math.Nat.{mod-eq_of_lt, mod-lt, mul-le-mul_right}
+pub use Rattle.std.proofs.lemmas.Bool.Decides.{eqb_tells, nat_tests}
+pub use Rattle.gh_cache.specs.Listing.{alloc_word, asks, at_stage, given, given_at, goes, goes_at, is_clear, opening, passed, Searching, slot_at}
+pub use Rattle.gh_cache.specs.Sound.{FitsArena}
+pub use Rattle.gh_cache.specs.Vocabulary.{Cached, Ended, Layout, Look, pages_of, slot_words_of, slots_of, SlotStage}
+pub use Rattle.gh_class.specs.Classes.{IsSizeClass, slot_of}

@@ -1,24 +1,22 @@
 -- What is known while a cached span is searched for a clear slot and any number of processors change the heap; what each step of its own is, that it is on a word that there is, and that what is known lasts whatever others do. The seat holds the span, so no other sets a bit in it.
 use Rattle.std.specs.Prelude.{◌≡◌, ℕ, ◌<◌, Bool, true, Option, Some, None}
-use Rattle.gh_base.specs.declared.pack.PageWord.TheVariants as page
+use Rattle.gh_cache.specs.Vocabulary.{Cached, Look, slot_words_of, slots_of}
+use Rattle.gh_base.specs.declared.pack.PageWord.{PageWord}
 use Rattle.gh_base.specs.declared.pack.SpanHead.{SpanHead}
 use Rattle.gh_base.specs.Cells.{InRange}
 use Rattle.gh_base.specs.Packing.{page_of}
 use Rattle.gh_base.specs.Rows.{Row, row_bit}
 use Rattle.gh_base.specs.Steps.{cell_of}
 use Rattle.gh_class.specs.declared.class.SizeClass.TheVariants.{Small}
-use Rattle.gh_class.specs.Classes.{slot_words_of, slots_of}
 use Rattle.gh_heap.specs.Moves.{KeepsObjects, Others, Steps}
 use Rattle.gh_heap.specs.Rights.{Arena, Claims, Good, Right, Shared, View, view}
 use Rattle.gh_heap.specs.Spans.{IsFull, Laying}
-use Rattle.gh_cache.specs.declared.next_slot.Cached.{Cached}
-use Rattle.gh_cache.specs.declared.next_slot.SlotStage.TheVariants.{Look}
 use Rattle.gh_cache.specs.Listing.{Searching, asks, given, goes, slot_at}
 
 -- the seat holds the span, which begins at its head page and is of its class and noscan or not
 pub record SpanIsHeld (a : ℕ) (v : View) (span : Cached) (noscan : Bool) : Type 0 where
   pub h : SpanHead
-  pub head : page_of (v.page span.head) ≡ page.Head h
+  pub head : page_of (v.page span.head) ≡ PageWord.Head h
   pub class : h.class ≡ Small span.class
   pub noscan_is : h.noscan ≡ noscan
   pub held : v.holds a span.head ≡ true

@@ -1,17 +1,8 @@
 -- The next clear slot of a cached span: what is asked for at each stage, where that leads, what it has given, and that it writes nothing.
 use Rattle.std.specs.Prelude.{ℕ, ◌+◌, ◌*◌, ◌/◌, ◌%◌, Bool, true, false, nat_lt, ◌==◌, ◌&&◌, if◌then◌else◌, Option, Some, None}
-use Rattle.std.specs.Int.{bit_at}
-use Rattle.gh_base.specs.declared.cell.Cell.TheVariants.{Touch, Alloc}
+use Rattle.gh_cache.specs.Vocabulary.{Alloc, bit_at, Cached, Ended, Layout, Listing, Load, Look, NextSlot, slot_words_of, slots_of, SlotStage, Touch}
 use Rattle.gh_base.specs.declared.cell.Ask.{Ask}
-use Rattle.gh_base.specs.declared.cell.Ask.TheVariants.{Load}
-use Rattle.gh_base.specs.declared.layout.Layout.{Layout}
 use Rattle.gh_base.specs.Footprints.{Footprint}
-use Rattle.gh_base.specs.Machines.{Listing}
-use Rattle.gh_class.specs.Classes.{slot_words_of, slots_of}
-use Rattle.gh_cache.specs.declared.next_slot.Cached.{Cached}
-use Rattle.gh_cache.specs.declared.next_slot.NextSlot.{NextSlot}
-use Rattle.gh_cache.specs.declared.next_slot.SlotStage.{SlotStage}
-use Rattle.gh_cache.specs.declared.next_slot.SlotStage.TheVariants.{Look, Ended}
 use Rattle.gh_cache.specs.Sound.{Sound}
 
 -- a routine that looks for a clear slot: of which span, from which slot on, and its stage

@@ -1,13 +1,7 @@
 -- What the routine finds: the least slot from the cursor on whose bit is clear, where it is told what the load for each slot found.
 use Rattle.std.specs.Prelude.{◌≡◌, ℕ, suc, ◌+◌, ◌-◌, ◌/◌, ◌%◌, ◌<◌, ◌≤◌, ◌↔◌, Option, Some, None}
-use Rattle.std.specs.Int.{bit_at}
-use Rattle.gh_base.specs.declared.cell.Cell.TheVariants.{Alloc}
-use Rattle.gh_base.specs.declared.cell.Ask.TheVariants.{Load}
-use Rattle.gh_base.specs.declared.layout.Layout.{Layout}
-use Rattle.gh_base.specs.Machines.{steps_of}
+use Rattle.gh_cache.specs.Vocabulary.{Alloc, bit_at, Cached, Layout, Load, slots_of, steps_of}
 use Rattle.gh_base.specs.Routines as routine
-use Rattle.gh_class.specs.Classes.{slots_of}
-use Rattle.gh_cache.specs.declared.next_slot.Cached.{Cached}
 use Rattle.gh_cache.specs.Listing.{Searching, asks, listing, opening, slot_at}
 use Rattle.gh_cache.specs.Sound.{FitsArena}
 

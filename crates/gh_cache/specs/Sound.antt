@@ -1,12 +1,7 @@
 -- What the routine knows of its own numbers, whatever it is told.
 use Rattle.std.specs.Prelude.{◌+◌, ◌<◌, ◌≤◌}
-use Rattle.gh_base.specs.declared.layout.Layout.{Layout}
+use Rattle.gh_cache.specs.Vocabulary.{Cached, Ended, Layout, Look, NextSlot, pages_of, slots_of, SlotStage}
 use Rattle.gh_class.specs.declared.class.TheConstants.{CLASSES}
-use Rattle.gh_class.specs.Classes.{pages_of, slots_of}
-use Rattle.gh_cache.specs.declared.next_slot.Cached.{Cached}
-use Rattle.gh_cache.specs.declared.next_slot.NextSlot.{NextSlot}
-use Rattle.gh_cache.specs.declared.next_slot.SlotStage.{SlotStage}
-use Rattle.gh_cache.specs.declared.next_slot.SlotStage.TheVariants.{Look, Ended}
 
 -- a span of a size class, in the arena
 pub record FitsArena (l : Layout) (span : Cached) : Type 0 where

@@ -1,18 +1,9 @@
 -- Giving a span back is a move that the rights of its seat allow, on a word that there is, and what must be known for it lasts.
 use Rattle.std.proofs.Common.{true, refl, ap, sym, subst, ◌∙◌, None, arith}
-use Rattle.gh_base.specs.declared.cell.Ask.TheVariants as ask
-use Rattle.gh_base.specs.declared.cell.Cell.TheVariants as cell
-use Rattle.gh_base.specs.declared.pack.SpanHead.{SpanHead}
-use Rattle.gh_base.specs.Cells.{InRange}
-use Rattle.gh_base.specs.Packing.{head_word}
-use Rattle.gh_base.specs.Steps.{cell_of, effect}
-use Rattle.gh_heap.specs.Laws.{EachRightFollows}
-use Rattle.gh_heap.specs.Moves.{Disown, May, Publish}
-use Rattle.gh_heap.specs.Rights.{view}
+use Rattle.gh_central.proofs.Vocabulary.{Ask, Cell, cell_of, Disown, EachRightFollows, effect, head_word, InRange, May, Publish, SpanHead, view, WritesHead}
 use Rattle.gh_central.specs.declared.give.GiveStage.{GiveStage}
 use Rattle.gh_central.specs.GiveBack.{asks_at}
 use Rattle.gh_central.specs.GiveFacts.{GivesBack, GivesByItsRights, GivesLarge, Lasts, Within, WritesHeads}
-use Rattle.gh_central.specs.Owning.{WritesHead}
 
 pub record Known : Type 0 where
   pub follow : EachRightFollows
@@ -21,7 +12,7 @@ gives : Known → GivesBack
 gives k z a s held g good right x = record {
   move = Disown g.page x.h;
   may = may;
-  words_are = ap (λ (h : SpanHead). effect s.words (ask.Store (cell.Page g.page) (head_word h))) x.same ∙ ap (λ (q : GiveStage). effect s.words (asks_at g q)) (sym x.stage);
+  words_are = ap (λ (h : SpanHead). effect s.words (Ask.Store (Cell.Page g.page) (head_word h))) x.same ∙ ap (λ (q : GiveStage). effect s.words (asks_at g q)) (sym x.stage);
   after = ((refl, refl), (k.follow z a s true held None right).given g.page x.h);
 } where
   may : May z a (view s) (Disown g.page x.h)
@@ -31,7 +22,7 @@ gives_large : Known → GivesLarge
 gives_large k z a s l held y g good right x large full = record {
   move = Publish g.page x.h;
   may = (x.held, x.head, large, full);
-  words_are = ap (λ (h : SpanHead). effect s.words (ask.Store (cell.Page g.page) (head_word h))) x.same ∙ ap (λ (q : GiveStage). effect s.words (asks_at g q)) (sym x.stage);
+  words_are = ap (λ (h : SpanHead). effect s.words (Ask.Store (Cell.Page g.page) (head_word h))) x.same ∙ ap (λ (q : GiveStage). effect s.words (asks_at g q)) (sym x.stage);
   after = ((refl, refl), (k.follow z a s l held y right).published g.page x.h);
 }
 

@@ -1,7 +1,6 @@
 -- The tests of a head by which the two passes for a span choose.
 use Rattle.std.proofs.Common.{◌≡◌, ◌+◌, true, arith}
-use Rattle.gh_central.proofs.Vocabulary.{is_wanted, Pass, Small, SpanHead}
-use Rattle.gh_central.specs.UnsweptPass.{is_unswept, Unswept}
+use Rattle.gh_central.proofs.Vocabulary.{is_unswept, is_wanted, Pass, Small, SpanHead, Unswept}
 
 pub wanted-is : (m : Pass) (h : SpanHead) → is_wanted m h ≡ true → (h.class ≡ Small m.wanted.class) × (h.noscan ≡ m.wanted.noscan) × (h.owner ≡ 0) × (h.number ≡ m.generation)
 wanted-is m h e = grind arith

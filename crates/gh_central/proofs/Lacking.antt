@@ -1,9 +1,6 @@
 -- The test for a clear slot says what it is to say.
 use Rattle.std.proofs.Common.{◌≡◌, ℕ, zero, suc, ◌+◌, ◌*◌, ◌/◌, ◌%◌, ◌-◌, ◌<◌, ◌≤◌, Bool, true, false, ◌||◌, ◌↔◌, IsTrue, refl, ap, ◌∙◌, arith}
-use Rattle.std.specs.Int.{bit_at}
-use Rattle.std.proofs.lemmas.Bool.Decides.{nat_tests}
-use Rattle.std.proofs.Math.Nat.{mul-mod_left}
-use Rattle.gh_central.specs.Slots.{IsClear, LacksSlot, slot_is_clear, lacks_slot}
+use Rattle.gh_central.proofs.Vocabulary.{bit_at, IsClear, lacks_slot, LacksSlot, mul-mod_left, nat_tests, slot_is_clear}
 
 module _ (slot first word found : ℕ) where
   clear_means : (i : ℕ) → slot_is_clear slot first word found i ≡ true → IsClear slot first word found i

@@ -1,15 +1,7 @@
 -- The store that gives a span back changes the head's owner alone.
 use Rattle.std.proofs.Common.{ℕ, ◌<◌, ◌^◌, lit<, sym, ap, ◌∙◌}
-use Rattle.gh_base.specs.declared.cell.Cell.TheVariants.{Page}
-use Rattle.gh_base.specs.declared.cell.Ask.TheVariants.{Store}
-use Rattle.gh_base.specs.declared.pack.PageWord.TheVariants.{Head}
-use Rattle.gh_base.specs.declared.pack.SpanHead.{SpanHead}
-use Rattle.gh_base.specs.Cells.{Words}
-use Rattle.gh_base.specs.Packing.{FitsHead, head_word, PackedWordsAreReadBack, page_of}
-use Rattle.gh_base.specs.Rows.{CellsAreTold}
+use Rattle.gh_central.proofs.Vocabulary.{CellsAreTold, ChangesTheOwner, FitsHead, Head, head_word, owned_by, PackedWordsAreReadBack, Page, page_of, SpanHead, Store, Words}
 use Rattle.gh_central.specs.GiveBack as giving
-use Rattle.gh_central.specs.Owning.{ChangesTheOwner}
-use Rattle.gh_central.specs.SweptPass.{owned_by}
 
 module _ (packed : PackedWordsAreReadBack) (told : CellsAreTold) where
   changes : (page : ℕ) (h : SpanHead) (owner : ℕ) (words : Words) → FitsHead h → owner < 2 ^ 8 → ChangesTheOwner page h owner (Store (Page page) (head_word (owned_by owner h))) words

@@ -1,16 +1,11 @@
 -- The pass's own steps are moves that its rights allow, and what it knows lasts. Of the heap it is known what the laws of gh_heap say.
 use Rattle.std.proofs.Common.{◌≡◌, ◌≢◌, ℕ, ◌+◌, ◌*◌, ◌/◌, ◌%◌, ◌<◌, ◌≤◌, Bool, true, false, cond, ltb, inl, inr, Some, None, refl, sym, ap, subst, ◌∙◌, arith, ltb-true, ltb-false}
-use Rattle.gh_base.specs.declared.cell.Cell.TheVariants as cell
-use Rattle.gh_base.specs.declared.pack.PageWord.TheVariants as page
-use Rattle.gh_central.specs.declared.pass.PassStage.TheVariants.{Bits, Ended, Look, Take}
-use Rattle.gh_central.proofs.Vocabulary.{after_page, alloc_word, Arena, asks, asks_at, at_stage, bit_at, cell_of, EachFactLasts, EachMoveKeeps, EachOwnMoveLeaves, EachRightFollows, eqb_tells, given, given_at, goes, goes_at, Good, InRange, is_wanted, IsFull, IsSpan, KeepsObjects, lacks_at, Leaves, look_from, mod-eq_of_lt, mod-lt, Others, PackedWordsAreReadBack, page_of, PageWord, Pass, PassStage, Quiet, Right, row_bit, Shared, SizeClass, slot_count, slot_of, slot_size, slot_words_of, slots_of, Small, SpanHead, Steps, TheHeapIsApart, View, view}
+use Rattle.gh_central.proofs.Vocabulary.{after_page, alloc_word, Arena, asks, asks_at, at_stage, bit_at, Bits, Cell, cell_of, EachFactLasts, EachMoveKeeps, EachOwnMoveLeaves, EachRightFollows, Ended, eqb_tells, FactsAt, given, given_at, goes, goes_at, Good, HasPassed, InRange, is_own_class, is_wanted, IsFull, IsSpan, IsSure, IsUnowned, KeepsObjects, lacks_at, Leaves, Look, look_from, LooksAt, LooksInto, mod-eq_of_lt, mod-lt, number_of_class, Opens, Others, OwnStep, PackedWordsAreReadBack, page_of, PageWord, Pass, Passes, PassesByItsRights, PassStage, Quiet, Right, row_bit, Shared, slot_count, slot_of, slot_size, slot_words_of, slots_of, SlotsTakenBelow, Small, sought, SpanHead, Steps, Take, TheHeapIsApart, TheTestSaysIt, View, view, WritesHead}
+use Rattle.gh_class.specs.declared.class.SizeClass.{SizeClass}
 use Rattle.gh_central.proofs.Heads.{past-page, past-span}
 use Rattle.gh_central.proofs.HeadTests.{wanted-is, wanted-test}
 use Rattle.gh_central.proofs.Taking as taking
-use Rattle.gh_central.specs.PassFacts.{Comes, Facts, FactsAt, HasPassed, IsSure, IsUnowned, Lasts, LooksAt, LooksInto, Opens, OwnStep, Passes, PassesByItsRights, SlotsTakenBelow, sought}
-use Rattle.gh_central.specs.Owning.{WritesHead}
-use Rattle.gh_central.specs.Slots.{TheTestSaysIt}
-use Rattle.gh_heap.specs.Spans.{is_own_class, number_of_class}
+use Rattle.gh_central.specs.PassFacts.{Comes, Facts, Lasts}
 
 pub record Known : Type 0 where
   pub packed : PackedWordsAreReadBack
@@ -77,7 +72,7 @@ module _ (k : Known) (z : Arena) (a : ℕ) (sure : Bool) (s : Shared) (held : �
   IsDone q h = h.class ≡ Small m.wanted.class → h.noscan ≡ m.wanted.noscan → h.owner ≡ 0 → (h.number ≡ now.generation) × IsFull now.alloc q h
 
   -- each span is whole
-  whole : Good z now → Right a now true held None → (p : ℕ) (h : SpanHead) → page_of (now.page p) ≡ page.Head h → IsSpan z.layout.pages now.page p h
+  whole : Good z now → Right a now true held None → (p : ℕ) (h : SpanHead) → page_of (now.page p) ≡ PageWord.Head h → IsSpan z.layout.pages now.page p h
   whole g right p h = (k.apart z now g).locked a p h right.locked right.freeing
 
   stays : Good z now → Leaves now now
@@ -90,10 +85,10 @@ module _ (k : Known) (z : Arena) (a : ℕ) (sure : Bool) (s : Shared) (held : �
 
   look : (p : ℕ) → Good z now → Right a now true held None → IsSure z sure now → Passes z a now m → LooksAt z sure (sought m) now p → Goes (goes_at z.layout m (Look p) (now.page p))
   look p g right tidy whose x = go (page_of (now.page p)) refl where
-    no-head : (w : PageWord) (h : SpanHead) → page_of (now.page p) ≡ w → w ≢ page.Head h → page_of (now.page p) ≢ page.Head h
+    no-head : (w : PageWord) (h : SpanHead) → page_of (now.page p) ≡ w → w ≢ PageWord.Head h → page_of (now.page p) ≢ PageWord.Head h
     no-head w h e n f = n (sym e ∙ f)
 
-    on-head : (h : SpanHead) → page_of (now.page p) ≡ page.Head h → (b : Bool) → is_wanted m h ≡ b → Goes (cond b (Bits p h 0) (look_from z.layout (p + h.pages)))
+    on-head : (h : SpanHead) → page_of (now.page p) ≡ PageWord.Head h → (b : Bool) → is_wanted m h ≡ b → Goes (cond b (Bits p h 0) (look_from z.layout (p + h.pages)))
     on-head h head true t =
         let w = wanted-is m h t in
         let span = g.spans p h head in (
@@ -116,9 +111,9 @@ module _ (k : Known) (z : Arena) (a : ℕ) (sure : Bool) (s : Shared) (held : �
       clash e = cc
 
     go : (w : PageWord) → page_of (now.page p) ≡ w → Goes (after_page z.layout m p w)
-    go page.Free e = looks (p + 1) g right whose (λ is. past-page now.page IsDone p (x.full is) (λ h. no-head page.Free h e (λ f. absurd cc))) (ltb (p + 1) z.layout.pages) refl
-    go (page.Body b) e = looks (p + 1) g right whose (λ is. past-page now.page IsDone p (x.full is) (λ h. no-head (page.Body b) h e (λ f. absurd cc))) (ltb (p + 1) z.layout.pages) refl
-    go (page.Head h) e = on-head h e (is_wanted m h) refl
+    go PageWord.Free e = looks (p + 1) g right whose (λ is. past-page now.page IsDone p (x.full is) (λ h. no-head PageWord.Free h e (λ f. absurd cc))) (ltb (p + 1) z.layout.pages) refl
+    go (PageWord.Body b) e = looks (p + 1) g right whose (λ is. past-page now.page IsDone p (x.full is) (λ h. no-head (PageWord.Body b) h e (λ f. absurd cc))) (ltb (p + 1) z.layout.pages) refl
+    go (PageWord.Head h) e = on-head h e (is_wanted m h) refl
 
   -- an alloc word of a span that is looked into
   abbrev slot_at : (p j : ℕ) → ℕ
@@ -168,7 +163,7 @@ module _ (k : Known) (z : Arena) (a : ℕ) (sure : Bool) (s : Shared) (held : �
   own-at (Look p) g right tidy x = record { move = Quiet (asks z.layout (at_stage m (Look p))); may = tt; words_are = refl; after = ((refl, refl), look p g right tidy (whose-of z a now m (Look p) x.whose) x.stage) }
   own-at (Bits p h i) g right tidy x =
       let whose = whose-of z a now m (Bits p h i) x.whose in
-      record { move = Quiet (asks z.layout (at_stage m (Bits p h i))); may = tt; words_are = refl; after = ((refl, refl), bits p i (s.words (cell.Alloc (alloc_word z.layout p i))) h (ap (λ (n : ℕ). now.alloc n) (word-is p i h g whose x.stage)) g right whose x.stage) }
+      record { move = Quiet (asks z.layout (at_stage m (Bits p h i))); may = tt; words_are = refl; after = ((refl, refl), bits p i (s.words (Cell.Alloc (alloc_word z.layout p i))) h (ap (λ (n : ℕ). now.alloc n) (word-is p i h g whose x.stage)) g right whose x.stage) }
   own-at (Take p h) g right tidy x = take p h g right (whose-of z a now m (Take p h) x.whose) x.stage
   own-at (Ended taken) g right tidy x = absurd x.stage
 

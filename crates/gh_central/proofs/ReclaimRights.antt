@@ -1,13 +1,9 @@
 -- The steps of the freeing of empty spans are moves that its rights allow, and what it knows lasts. Of the heap it is known what the laws of gh_heap say.
 use Rattle.std.proofs.Common.{◌≡◌, ◌≢◌, ℕ, ◌+◌, ◌-◌, ◌*◌, ◌/◌, ◌%◌, ◌<◌, ◌≤◌, Bool, true, false, cond, eqb, ltb, inl, inr, Some, None, refl, sym, ap, subst, ◌∙◌, arith, w64, eqb-true, ltb-true, ltb-false, ne_eqb}
-use Rattle.gh_base.specs.declared.cell.Cell.TheVariants as cell
-use Rattle.gh_base.specs.declared.pack.PageWord.TheVariants as page
-use Rattle.gh_central.specs.declared.reclaim.ReclaimStage.{ReclaimStage}
-use Rattle.gh_central.specs.declared.reclaim.ReclaimStage.TheVariants.{Look, Sweep, Wait, Bits, Body, Head, Ended}
-use Rattle.gh_central.specs.Reclaim.{Reclaiming, after_page, after_wait, asks, asks_at, at_stage, body_page, free_from, given, given_at, goes, goes_at, look_from, sweep_at, unswept}
-use Rattle.gh_central.specs.Owning.{FreesPage}
-use Rattle.gh_central.specs.ReclaimFacts.{ClearBelow, Comes, Facts, FactsAt, FreesFrom, IsIdleSpan, IsReadyToFree, IsUnowned, Lasts, LooksAt, LooksInto, Opens, OwnStep, Reclaims, WaitsFor, Within, freed_to, freeing_at}
-use Rattle.gh_central.proofs.Vocabulary.{alloc_word, Arena, BeingFreed, bit_at, bit_at-trailing_zeros, bit_at-zero, cell_of, EachFactLasts, EachFreeingFollows, EachOwnMoveLeaves, eqb-false, eqb_tells, FreeBody, freed_yet, FreeHead, Freeing, Good, InRange, IsEmpty, IsInUse, IsSpan, KeepsObjects, Layout, Leaves, MayFree, mod-eq_of_lt, moved, Others, PackedWordsAreReadBack, page_of, PageWord, put, Quiet, Right, Rights, row_bit, Shared, SpanHead, Steps, TheHeapIsApart, TidyBefore, trailing_zeros, View, view, WalksGoOn}
+use Rattle.gh_central.proofs.Vocabulary.{after_wait, alloc_word, Arena, BeingFreed, bit_at, bit_at-trailing_zeros, bit_at-zero, Body, body_page, Cell, cell_of, ClearBelow, Comes, EachFactLasts, EachFreeingFollows, EachOwnMoveLeaves, eqb-false, eqb_tells, Facts, free_from, FreeBody, freed_to, freed_yet, FreeHead, Freeing, freeing_at, FreesFrom, FreesPage, Good, InRange, IsEmpty, IsIdleSpan, IsInUse, IsReadyToFree, IsSpan, KeepsObjects, Layout, Leaves, MayFree, mod-eq_of_lt, moved, Others, PackedWordsAreReadBack, page_of, PageWord, put, Quiet, Reclaiming, Reclaims, ReclaimStage, Right, Rights, row_bit, Shared, SpanHead, Steps, Sweep, sweep_at, TheHeapIsApart, TidyBefore, trailing_zeros, unswept, View, view, Wait, WaitsFor, WalksGoOn}
+use Rattle.gh_central.specs.declared.reclaim.ReclaimStage.TheVariants.{Look, Bits, Head, Ended}
+use Rattle.gh_central.specs.Reclaim.{after_page, asks, asks_at, at_stage, given, given_at, goes, goes_at, look_from}
+use Rattle.gh_central.specs.ReclaimFacts.{FactsAt, IsUnowned, Lasts, LooksAt, LooksInto, Opens, OwnStep, Within}
 use Rattle.gh_central.proofs.Heads.{past-page, past-span}
 use Rattle.gh_central.proofs.Sweeping.Steps as steps
 use Rattle.gh_sweep.specs.Listing as sweep
@@ -30,7 +26,7 @@ opens z v m whose stage = record {
 
 module _ (k : Known) (z : Arena) (a : ℕ) (v w : View) (g : Good z v) (o : Others z a v w) (l : v.locked a ≡ true) where
   -- no object is placed in a span that nobody owns
-  clear-lasts : (p i : ℕ) (h : SpanHead) → v.freeing a ≡ None → page_of (v.page p) ≡ page.Head h → h.owner ≡ 0 → i ≤ 16 * h.pages → ClearBelow v.alloc p i → ClearBelow w.alloc p i
+  clear-lasts : (p i : ℕ) (h : SpanHead) → v.freeing a ≡ None → page_of (v.page p) ≡ PageWord.Head h → h.owner ≡ 0 → i ≤ 16 * h.pages → ClearBelow v.alloc p i → ClearBelow w.alloc p i
   clear-lasts p i h none head owner few clear x low high = o.clear p x h ((k.apart z v g).locked a p h l none head) owner low (omega (arith, few, high)) (clear x low high)
 
   vacant-lasts : (p count : ℕ) → v.freeing a ≡ None → IsReadyToFree v p count → IsReadyToFree w p count
@@ -95,11 +91,11 @@ module _ (k : Known) (z : Arena) (a : ℕ) (s : Shared) (held : ℕ → Bool) (m
   abbrev IsDone : ℕ → SpanHead → Type 0
   IsDone q h = h.owner ≡ 0 → (h.number ≡ now.generation) × IsInUse now.alloc q h
 
-  whole : Good z now → Right a now true held None → (p : ℕ) (h : SpanHead) → page_of (now.page p) ≡ page.Head h → IsSpan z.layout.pages now.page p h
+  whole : Good z now → Right a now true held None → (p : ℕ) (h : SpanHead) → page_of (now.page p) ≡ PageWord.Head h → IsSpan z.layout.pages now.page p h
   whole g right p h = (k.apart z now g).locked a p h right.locked right.freeing
 
   -- it looks into a swept span that nobody owns
-  looks-into : (p : ℕ) (h : SpanHead) → Good z now → Right a now true held None → Reclaims now m → TidyBefore now.page now.alloc now.generation p → page_of (now.page p) ≡ page.Head h → h.owner ≡ 0 → h.number ≡ m.generation → Goes (Bits p h.pages 0)
+  looks-into : (p : ℕ) (h : SpanHead) → Good z now → Right a now true held None → Reclaims now m → TidyBefore now.page now.alloc now.generation p → page_of (now.page p) ≡ PageWord.Head h → h.owner ≡ 0 → h.number ≡ m.generation → Goes (Bits p h.pages 0)
   looks-into p h g right whose tidy head owner number = (
     stays g,
     right,
@@ -119,10 +115,10 @@ module _ (k : Known) (z : Arena) (a : ℕ) (s : Shared) (held : ℕ → Bool) (m
     owned : (h : SpanHead) → eqb h.owner 0 ≡ false → h.owner ≡ 0 → (h.number ≡ now.generation) × IsInUse now.alloc p h
     owned h t none = absurd (eqb-false h.owner 0 t none)
 
-    waits : (h : SpanHead) → page_of (now.page p) ≡ page.Head h → h.owner ≡ 0 → WaitsFor z now p
+    waits : (h : SpanHead) → page_of (now.page p) ≡ PageWord.Head h → h.owner ≡ 0 → WaitsFor z now p
     waits h head owner = record { there = x.there; tidy = x.tidy; unowned = record { h = h; head = head; owner = owner } }
 
-    on-unswept : (h : SpanHead) → page_of (now.page p) ≡ page.Head h → h.owner ≡ 0 → (b : Bool) → eqb (h.number + 2) m.generation ≡ b → Goes (cond b (Sweep p h.pages (sweep.opening p h)) (Wait p))
+    on-unswept : (h : SpanHead) → page_of (now.page p) ≡ PageWord.Head h → h.owner ≡ 0 → (b : Bool) → eqb (h.number + 2) m.generation ≡ b → Goes (cond b (Sweep p h.pages (sweep.opening p h)) (Wait p))
     on-unswept h head owner true t = (
       stays g,
       right,
@@ -133,16 +129,16 @@ module _ (k : Known) (z : Arena) (a : ℕ) (s : Shared) (held : ℕ → Bool) (m
     )
     on-unswept h head owner false t = (stays g, right, record { whose = whose; stage = waits h head owner })
 
-    on-head : (h : SpanHead) → page_of (now.page p) ≡ page.Head h → (b : Bool) → eqb h.owner 0 ≡ b → (c : Bool) → eqb h.number m.generation ≡ c →
+    on-head : (h : SpanHead) → page_of (now.page p) ≡ PageWord.Head h → (b : Bool) → eqb h.owner 0 ≡ b → (c : Bool) → eqb h.number m.generation ≡ c →
         Goes (cond b (cond c (Bits p h.pages 0) (unswept m p h)) (look_from z.layout (p + h.pages)))
     on-head h head true t true u = looks-into p h g right whose x.tidy head (eqb-true h.owner 0 t) (eqb-true h.number m.generation u)
     on-head h head true t false u = on-unswept h head (eqb-true h.owner 0 t) (eqb (h.number + 2) m.generation) refl
     on-head h head false t c u = looks now (p + h.pages) (stays g) right whose (past-span now.page IsDone z.layout.pages p h (whole g right p h head) x.tidy (owned h t)) (ltb (p + h.pages) z.layout.pages) refl
 
     go : (w : PageWord) → page_of (now.page p) ≡ w → Goes (after_page z.layout m p w)
-    go page.Free e = looks now (p + 1) (stays g) right whose (past-page now.page IsDone p x.tidy (λ h f. absurd (cc (e, f)))) (ltb (p + 1) z.layout.pages) refl
-    go (page.Body b) e = looks now (p + 1) (stays g) right whose (past-page now.page IsDone p x.tidy (λ h f. absurd (cc (e, f)))) (ltb (p + 1) z.layout.pages) refl
-    go (page.Head h) e = on-head h e (eqb h.owner 0) refl (eqb h.number m.generation) refl
+    go PageWord.Free e = looks now (p + 1) (stays g) right whose (past-page now.page IsDone p x.tidy (λ h f. absurd (cc (e, f)))) (ltb (p + 1) z.layout.pages) refl
+    go (PageWord.Body b) e = looks now (p + 1) (stays g) right whose (past-page now.page IsDone p x.tidy (λ h f. absurd (cc (e, f)))) (ltb (p + 1) z.layout.pages) refl
+    go (PageWord.Head h) e = on-head h e (eqb h.owner 0) refl (eqb h.number m.generation) refl
 
   -- a span that is waited for
   wait : (p : ℕ) → Good z now → Right a now true held None → Reclaims now m → WaitsFor z now p → Goes (goes_at z.layout m (Wait p) (now.page p))
@@ -150,14 +146,14 @@ module _ (k : Known) (z : Arena) (a : ℕ) (s : Shared) (held : ℕ → Bool) (m
     u : IsUnowned now.page p
     u = x.unowned
 
-    on-head : (h : SpanHead) → page_of (now.page p) ≡ page.Head h → h.owner ≡ 0 → (b : Bool) → eqb h.number m.generation ≡ b → Goes (cond b (Bits p h.pages 0) (Wait p))
+    on-head : (h : SpanHead) → page_of (now.page p) ≡ PageWord.Head h → h.owner ≡ 0 → (b : Bool) → eqb h.number m.generation ≡ b → Goes (cond b (Bits p h.pages 0) (Wait p))
     on-head h head owner true t = looks-into p h g right whose x.tidy head owner (eqb-true h.number m.generation t)
     on-head h head owner false t = (stays g, right, record { whose = whose; stage = x })
 
     go : (w : PageWord) → page_of (now.page p) ≡ w → Goes (after_wait m p w)
-    go page.Free e = absurd (cc (e, u.head))
-    go (page.Body b) e = absurd (cc (e, u.head))
-    go (page.Head h) e =
+    go PageWord.Free e = absurd (cc (e, u.head))
+    go (PageWord.Body b) e = absurd (cc (e, u.head))
+    go (PageWord.Head h) e =
         let same : u.h ≡ h = cc (e, u.head) in
         on-head h e (ap (λ (y : SpanHead). y.owner) (sym same) ∙ u.owner) (eqb h.number m.generation) refl
 
@@ -267,7 +263,7 @@ module _ (k : Known) (z : Arena) (a : ℕ) (s : Shared) (held : ℕ → Bool) (m
   body p count d g right whose x more = record {
     move = FreeBody y;
     may = (may-free p count d g right x, more);
-    words_are = ap (λ (i : ℕ). put s.words (cell.Page i) 0) (sym page-is);
+    words_are = ap (λ (i : ℕ). put s.words (Cell.Page i) 0) (sym page-is);
     after = ((refl, refl), go (ltb (d + 1) count) refl);
   } where
     y : Freeing
@@ -316,11 +312,11 @@ module _ (k : Known) (z : Arena) (a : ℕ) (s : Shared) (held : ℕ → Bool) (m
     being : BeingFreed now.page y
     being = (ready p count count g right x).0
 
-    no-head : (w : ℕ) (h : SpanHead) → page_of w ≡ page.Free → page_of w ≡ page.Head h → ⊥
+    no-head : (w : ℕ) (h : SpanHead) → page_of w ≡ PageWord.Free → page_of w ≡ PageWord.Head h → ⊥
     no-head w h e f = cc
 
     -- all of its pages are free
-    free : (q : ℕ) → p ≤ q → q < p + count → page_of ((view t).page q) ≡ page.Free
+    free : (q : ℕ) → p ≤ q → q < p + count → page_of ((view t).page q) ≡ PageWord.Free
     free q low high = elim (eqb_tells p q) [
       | inl e ↦ ap (λ (b : Bool). page_of (cond b 0 (now.page q))) e.0
       | inr n ↦
@@ -341,7 +337,7 @@ module _ (k : Known) (z : Arena) (a : ℕ) (s : Shared) (held : ℕ → Bool) (m
   own-at (Wait p) g right x none = record { move = Quiet (asks z.layout (at_stage m (Wait p))); may = tt; words_are = refl; after = ((refl, refl), wait p g right (x.whose) x.stage) }
   own-at (Bits p count i) g right x none =
       let whose : Reclaims now m = x.whose in
-      record { move = Quiet (asks z.layout (at_stage m (Bits p count i))); may = tt; words_are = refl; after = ((refl, refl), bits-step p count i (s.words (cell.Alloc (alloc_word z.layout p i))) (ap (λ (n : ℕ). now.alloc n) (word-is p count i g right whose x.stage)) g right whose x.stage) }
+      record { move = Quiet (asks z.layout (at_stage m (Bits p count i))); may = tt; words_are = refl; after = ((refl, refl), bits-step p count i (s.words (Cell.Alloc (alloc_word z.layout p i))) (ap (λ (n : ℕ). now.alloc n) (word-is p count i g right whose x.stage)) g right whose x.stage) }
   own-at (Body p count d) g right x none = body p count d g right (x.whose) x.stage.0 x.stage.1
   own-at (Head p count) g right x none = head p count g right (x.whose) x.stage
   own-at Ended g right x none = absurd x.stage

@@ -1,19 +1,11 @@
 -- The steps of the sweeps that the freeing of empty spans runs: they lead to the next stage's facts.
 use Rattle.std.proofs.Common.{◌≡◌, ℕ, ◌+◌, ◌^◌, ◌<◌, Bool, true, Option, Some, None, refl, sym, ap, subst, ◌∙◌, arith}
-use Rattle.gh_base.specs.declared.pack.PageWord.TheVariants as page
-use Rattle.gh_base.specs.Packing.{FitsHead}
-use Rattle.gh_central.specs.declared.reclaim.ReclaimStage.{ReclaimStage}
-use Rattle.gh_central.specs.declared.reclaim.ReclaimStage.TheVariants.{Bits, Sweep, Wait}
-use Rattle.gh_central.specs.Reclaim.{Reclaiming, after_sweep, asks, at_stage, given, given_at, goes, sweep_at}
-use Rattle.gh_central.specs.ReclaimFacts.{Comes, Facts, freeing_at, ReclaimsByItsRights, Reclaims, SweepsIt, SweepStep, WaitsFor}
-use Rattle.gh_central.specs.Sweeping.{SweepLeaves}
+use Rattle.gh_central.proofs.Vocabulary.{after_sweep, Arena, cell_of, Comes, effect, Facts, FitsHead, freeing_at, Good, Lost, once_swept, page_of, PageWord, Reclaiming, Reclaims, ReclaimsByItsRights, ReclaimStage, Right, Rights, Shared, SpanHead, Sweep, sweep_at, SweepEnd, Sweeping, SweepLeaves, SweepsIt, SweepStep, Swept, TidyBefore, View, view, Wait, WaitsFor}
+use Rattle.gh_central.specs.declared.reclaim.ReclaimStage.TheVariants.{Bits}
+use Rattle.gh_central.specs.Reclaim.{asks, at_stage, given, given_at, goes}
 use Rattle.gh_central.proofs.ReclaimRights.{frees-at, Known, lasts, opens, own, within}
 use Rattle.gh_central.proofs.Sweeping.Steps as steps
-use Rattle.gh_central.proofs.Vocabulary.{Arena, cell_of, effect, Good, page_of, Right, Rights, Shared, SpanHead, TidyBefore, View, view}
-use Rattle.gh_sweep.specs.declared.sweep.SweepEnd.{SweepEnd}
-use Rattle.gh_sweep.specs.declared.sweep.SweepEnd.TheVariants.{Lost, Swept}
 use Rattle.gh_sweep.specs.Listing as sweep
-use Rattle.gh_sweep.specs.Listing.{once_swept, Sweeping}
 
 module _ (k : Known) (z : Arena) (a : ℕ) (s t : Shared) (held : ℕ → Bool) (m : Reclaiming) (g : Good z (view s)) (o : SweepLeaves (view s) (view t)) (right : Right a (view t) true held None) (whose : Reclaims (view s) m) where
   abbrev before : View
@@ -55,7 +47,7 @@ module _ (k : Known) (z : Arena) (a : ℕ) (s t : Shared) (held : ℕ → Bool) 
   ran p count sw x words (Some Lost) e = (o.leaves, right, record { whose = whose-at (Wait p); stage = waits-then p x.waits })
   ran p count sw x words (Some (Swept span)) e =
       let few : sw.head.number + 2 < 2 ^ 34 = omega (arith, x.number, g.generation) in
-      let head : page_of (then.page p) ≡ page.Head (once_swept sw.head) = steps.swept_then k.packed z.layout s.words t.words sw p sw.head span words x.page_is refl x.busy x.fits few e in (
+      let head : page_of (then.page p) ≡ PageWord.Head (once_swept sw.head) = steps.swept_then k.packed z.layout s.words t.words sw p sw.head span words x.page_is refl x.busy x.fits few e in (
         o.leaves,
         right,
         record {

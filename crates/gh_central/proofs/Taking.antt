@@ -1,11 +1,8 @@
 -- A swept span that nobody owns is taken, as both passes end.
 use Rattle.std.proofs.Common.{◌≡◌, ℕ, ◌+◌, ◌^◌, ◌<◌, Bool, true, false, cond, None, Option, refl, sym, ap, ◌∙◌, arith, eq-eqb}
-use Rattle.gh_base.specs.declared.cell.Ask.TheVariants as ask
-use Rattle.gh_base.specs.declared.cell.Cell.TheVariants as cell
-use Rattle.gh_base.specs.declared.pack.PageWord.TheVariants as page
+use Rattle.gh_central.proofs.Vocabulary.{Arena, Ask, Cell, EachFactLasts, EachMoveKeeps, EachOwnMoveLeaves, EachRightFollows, effect, Good, head_word, IsSpan, IsUnowned, KeepsObjects, Laying, Leaves, MayPass, moved, Others, Own, owner_at, owner_in, PackedWordsAreReadBack, page_of, PageWord, Right, Shared, SpanHead, SpanIsTaken, Steps, TheHeapIsApart, update, View, view}
 use Rattle.gh_class.specs.declared.class.SpanClass.{SpanClass}
-use Rattle.gh_central.proofs.Vocabulary.{Arena, EachFactLasts, EachMoveKeeps, EachOwnMoveLeaves, EachRightFollows, effect, Good, head_word, IsSpan, KeepsObjects, Laying, Leaves, MayPass, moved, Others, Own, owned_by, owner_at, owner_in, PackedWordsAreReadBack, page_of, Right, Shared, SpanHead, Steps, TheHeapIsApart, update, View, view}
-use Rattle.gh_central.specs.PassFacts.{IsUnowned, SpanIsTaken}
+use Rattle.gh_heap.specs.Spans.{owned_by}
 
 pub record Known : Type 0 where
   pub packed : PackedWordsAreReadBack
@@ -30,8 +27,8 @@ module _ (k : Known) (z : Arena) (a : ℕ) (s : Shared) (held : ℕ → Bool) (w
   abbrev now : View
   now = view s
 
-  pub takes : (p : ℕ) (h : SpanHead) → Good z now → Right a now true held None → a + 1 < 2 ^ 8 → IsUnowned wanted now.page now.generation p h → Steps z a s (ask.Store (cell.Page p) (head_word (owned_by (seat + 1) h))) (λ t. Taken z a now (view t) held wanted p)
-  takes p h g right seats x = record { move = Own p h; may = may; words_are = ap (λ (n : ℕ). effect s.words (ask.Store (cell.Page p) (head_word (owned_by (n + 1) h)))) (sym whose); after = ((refl, refl), (leaves, right-then, record { h = owned_by (a + 1) h; span = span; class = x.class; noscan = x.noscan; owner = refl }, not-held z a now true held None p g right (ap owner_in x.head ∙ x.owner))) } where
+  pub takes : (p : ℕ) (h : SpanHead) → Good z now → Right a now true held None → a + 1 < 2 ^ 8 → IsUnowned wanted now.page now.generation p h → Steps z a s (Ask.Store (Cell.Page p) (head_word (owned_by (seat + 1) h))) (λ t. Taken z a now (view t) held wanted p)
+  takes p h g right seats x = record { move = Own p h; may = may; words_are = ap (λ (n : ℕ). effect s.words (Ask.Store (Cell.Page p) (head_word (owned_by (n + 1) h)))) (sym whose); after = ((refl, refl), (leaves, right-then, record { h = owned_by (a + 1) h; span = span; class = x.class; noscan = x.noscan; owner = refl }, not-held z a now true held None p g right (ap owner_in x.head ∙ x.owner))) } where
     may : MayPass now a p h × (h.owner ≡ 0) × (a + 1 < 2 ^ 8) × (h.number ≡ now.generation)
     may = (record { locked = right.locked; laying = right.laying; freeing = right.freeing; head = x.head }, x.owner, seats, x.number)
 
@@ -57,4 +54,4 @@ module _ (k : Known) (z : Arena) (a : ℕ) (s : Shared) (held : ℕ → Bool) (w
     number-few = omega (arith, (g.numbers p h x.head).few, g.generation)
 
     span : IsSpan z.layout.pages (view t).page p (owned_by (a + 1) h)
-    span = (k.apart z (view t) (k.keep z a s (Own p h) g may)).held a p (owned_by (a + 1) h) (right-then.holds p ∙ ap (λ (b : Bool). cond b true (held p)) (eq-eqb p p refl)) (ap page_of written ∙ k.packed.page (page.Head (owned_by (a + 1) h)) (record { class = before.fits.class; some = before.fits.some; pages = pages-few; owner = seats; number = number-few }))
+    span = (k.apart z (view t) (k.keep z a s (Own p h) g may)).held a p (owned_by (a + 1) h) (right-then.holds p ∙ ap (λ (b : Bool). cond b true (held p)) (eq-eqb p p refl)) (ap page_of written ∙ k.packed.page (PageWord.Head (owned_by (a + 1) h)) (record { class = before.fits.class; some = before.fits.some; pages = pages-few; owner = seats; number = number-few }))

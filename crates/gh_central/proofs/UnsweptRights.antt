@@ -1,20 +1,13 @@
 -- The steps of the pass for an unswept span are moves that its rights allow, or those of a sweep, and what it knows lasts. Of the heap it is known what the laws of gh_heap say.
 use Rattle.std.proofs.Common.{◌≡◌, ℕ, ◌+◌, ◌^◌, ◌<◌, Bool, true, false, cond, ltb, Option, Some, None, refl, sym, subst, ◌∙◌, arith, eqb, eqb-true}
-use Rattle.gh_base.specs.declared.pack.PageWord.TheVariants as page
-use Rattle.gh_central.specs.declared.unswept.UnsweptStage.{UnsweptStage}
+use Rattle.gh_central.proofs.Vocabulary.{Arena, cell_of, EachFactLasts, effect, eqb-false, Good, InRange, is_unswept, KeepsObjects, Leaves, Lost, once_swept, Others, page_of, PageWord, Quiet, Right, Shared, SpanHead, Steps, SweepEnd, Sweeping, SweepLeaves, Swept, Unswept, UnsweptStage, View, view, WritesHead}
 use Rattle.gh_central.specs.declared.unswept.UnsweptStage.TheVariants.{Look, Sweep, Take, Ended}
-use Rattle.gh_central.specs.Owning.{WritesHead}
-use Rattle.gh_central.specs.Sweeping.{SweepLeaves}
 use Rattle.gh_central.specs.UnsweptFacts.{Comes, Facts, FactsAt, Lasts, Opens, OwnStep, Passes, SweepsByItsRights, SweepsIt, SweepStep}
-use Rattle.gh_central.specs.UnsweptPass.{after_page, after_sweep, asks, asks_at, at_stage, given, given_at, goes, goes_at, is_unswept, look_from, sweep_at, Unswept}
+use Rattle.gh_central.specs.UnsweptPass.{after_page, after_sweep, asks, asks_at, at_stage, given, given_at, goes, goes_at, look_from, sweep_at}
 use Rattle.gh_central.proofs.HeadTests.{unswept-is}
 use Rattle.gh_central.proofs.Sweeping.Steps as steps
 use Rattle.gh_central.proofs.Taking as taking
-use Rattle.gh_central.proofs.Vocabulary.{Arena, cell_of, EachFactLasts, effect, eqb-false, Good, InRange, KeepsObjects, Leaves, Others, page_of, PageWord, Quiet, Right, Shared, SpanHead, Steps, View, view}
-use Rattle.gh_sweep.specs.declared.sweep.SweepEnd.{SweepEnd}
-use Rattle.gh_sweep.specs.declared.sweep.SweepEnd.TheVariants.{Lost, Swept}
 use Rattle.gh_sweep.specs.Listing as sweep
-use Rattle.gh_sweep.specs.Listing.{once_swept, Sweeping}
 
 pub record Known : Type 0 where
   pub taking : taking.Known
@@ -63,7 +56,7 @@ module _ (k : Known) (z : Arena) (a : ℕ) (s : Shared) (held : ℕ → Bool) (m
   stays g = (k.taking.leave z a s g).stays
 
   -- a span that is not swept nobody owns
-  unowned : Good z now → (p : ℕ) (h : SpanHead) → page_of (now.page p) ≡ page.Head h → h.number + 2 ≡ now.generation → h.owner ≡ 0
+  unowned : Good z now → (p : ℕ) (h : SpanHead) → page_of (now.page p) ≡ PageWord.Head h → h.number + 2 ≡ now.generation → h.owner ≡ 0
   unowned g p h head number = go (eqb h.owner 0) refl where
     go : (b : Bool) → eqb h.owner 0 ≡ b → h.owner ≡ 0
     go true t = eqb-true h.owner 0 t
@@ -71,7 +64,7 @@ module _ (k : Known) (z : Arena) (a : ℕ) (s : Shared) (held : ℕ → Bool) (m
 
   look : (p : ℕ) → Good z now → Right a now true held None → Passes z a now m → p < z.layout.pages → Goes (goes_at z.layout m (Look p) (now.page p))
   look p g right whose there = go (page_of (now.page p)) refl where
-    on-head : (h : SpanHead) → page_of (now.page p) ≡ page.Head h → (b : Bool) → is_unswept m h ≡ b → Goes (cond b (Sweep p h (sweep.opening p h)) (look_from z.layout (p + h.pages)))
+    on-head : (h : SpanHead) → page_of (now.page p) ≡ PageWord.Head h → (b : Bool) → is_unswept m h ≡ b → Goes (cond b (Sweep p h (sweep.opening p h)) (look_from z.layout (p + h.pages)))
     on-head h head true t =
         let u = unswept-is m h t in
         let number : h.number + 2 ≡ now.generation = u.2 ∙ whose.number in
@@ -86,9 +79,9 @@ module _ (k : Known) (z : Arena) (a : ℕ) (s : Shared) (held : ℕ → Bool) (m
     on-head h head false t = looks z a now now held m (p + h.pages) (stays g) right whose (ltb (p + h.pages) z.layout.pages) refl
 
     go : (w : PageWord) → page_of (now.page p) ≡ w → Goes (after_page z.layout m p w)
-    go page.Free e = looks z a now now held m (p + 1) (stays g) right whose (ltb (p + 1) z.layout.pages) refl
-    go (page.Body b) e = looks z a now now held m (p + 1) (stays g) right whose (ltb (p + 1) z.layout.pages) refl
-    go (page.Head h) e = on-head h e (is_unswept m h) refl
+    go PageWord.Free e = looks z a now now held m (p + 1) (stays g) right whose (ltb (p + 1) z.layout.pages) refl
+    go (PageWord.Body b) e = looks z a now now held m (p + 1) (stays g) right whose (ltb (p + 1) z.layout.pages) refl
+    go (PageWord.Head h) e = on-head h e (is_unswept m h) refl
 
   own-at : (q : UnsweptStage) → Good z now → Right a now true held None → Facts z a now (at_stage m q) → sweep_at q ≡ None →
       Steps z a s (asks z.layout (at_stage m q)) (λ t. KeepsObjects now (view t) × Comes z a now (view t) held (given (goes z.layout (at_stage m q) (s.words (cell_of (asks z.layout (at_stage m q)))))) (goes z.layout (at_stage m q) (s.words (cell_of (asks z.layout (at_stage m q))))))
@@ -132,7 +125,7 @@ module _ (k : Known) (z : Arena) (a : ℕ) (s t : Shared) (held : ℕ → Bool) 
     few : h.number + 2 < 2 ^ 34
     few = omega (arith, x.number, g.generation)
 
-    head : page_of (then.page p) ≡ page.Head (once_swept h)
+    head : page_of (then.page p) ≡ PageWord.Head (once_swept h)
     head = steps.swept_then k.taking.packed z.layout s.words t.words sw p h span words x.page_is x.head_is x.busy x.fits few e
 
     go : (b : Bool) → Comes-to (cond b (Take p (once_swept h)) (look_from z.layout (p + h.pages)))

@@ -1,15 +1,9 @@
 -- A span is given back: what is asked for at each stage, where that leads, what it has given, and that it writes page words.
 use Rattle.std.specs.Prelude.{ℕ, ◌<◌, Option, Some, None}
-use Rattle.gh_base.specs.declared.cell.Cell.TheVariants.{Touch, Page}
-use Rattle.gh_base.specs.declared.cell.Ask.{Ask}
-use Rattle.gh_base.specs.declared.cell.Ask.TheVariants.{Load, Store}
-use Rattle.gh_base.specs.declared.layout.Layout.{Layout}
-use Rattle.gh_base.specs.declared.pack.SpanHead.{SpanHead}
-use Rattle.gh_base.specs.Machines.{Listing}
-use Rattle.gh_base.specs.Packing.{FitsHead, head_word}
+use Rattle.gh_central.specs.Vocabulary.{Ask, FitsHead, head_word, Layout, Listing, Load, Page, SpanHead, Store, Touch, Write}
 use Rattle.gh_central.specs.declared.give.GiveBack.{GiveBack}
 use Rattle.gh_central.specs.declared.give.GiveStage.{GiveStage}
-use Rattle.gh_central.specs.declared.give.GiveStage.TheVariants.{Write, Ended}
+use Rattle.gh_central.specs.declared.give.GiveStage.TheVariants.{Ended}
 use Rattle.gh_central.specs.SweptPass.{owned_by, writes}
 
 -- the span's first page and what its head word says, and the routine's stage

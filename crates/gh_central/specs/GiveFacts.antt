@@ -1,15 +1,6 @@
 -- A span is given back while any number of processors change the heap: what must be known, which move it is, and that it is on a word that there is.
 use Rattle.std.specs.Prelude.{◌≡◌, ℕ, Bool, true, false, Option, None}
-use Rattle.gh_base.specs.declared.pack.PageWord.TheVariants as page
-use Rattle.gh_base.specs.declared.pack.SpanHead.{SpanHead}
-use Rattle.gh_base.specs.Cells.{InRange}
-use Rattle.gh_base.specs.Packing.{page_of}
-use Rattle.gh_base.specs.Steps.{cell_of}
-use Rattle.gh_class.specs.declared.class.SizeClass.TheVariants.{Large}
-use Rattle.gh_heap.specs.Moves.{KeepsObjects, Others, Steps, update}
-use Rattle.gh_heap.specs.Rights.{Arena, Good, Right, Shared, View, view}
-use Rattle.gh_heap.specs.Spans.{IsFull, Laying, owned_by}
-use Rattle.gh_central.specs.declared.give.GiveStage.TheVariants.{Write}
+use Rattle.gh_central.specs.Vocabulary.{Arena, cell_of, Good, InRange, IsFull, KeepsObjects, Large, Laying, Others, owned_by, page_of, PageWord, Right, Shared, SpanHead, Steps, update, View, view, Write}
 use Rattle.gh_central.specs.GiveBack.{SpanGiving, asks}
 use Rattle.gh_central.specs.Owning.{WritesHead}
 
@@ -17,7 +8,7 @@ use Rattle.gh_central.specs.Owning.{WritesHead}
 pub record CanGiveBack (z : Arena) (a : ℕ) (v : View) (g : SpanGiving) : Type 0 where
   pub stage : g.stage ≡ Write
   pub h : SpanHead
-  pub head : page_of (v.page g.page) ≡ page.Head h
+  pub head : page_of (v.page g.page) ≡ PageWord.Head h
   pub same : owned_by 0 h ≡ owned_by 0 g.head
   pub held : v.holds a g.page ≡ true
   pub number : h.number ≡ v.generation

@@ -12,3 +12,4 @@ pub mod SweptPass
 pub mod UnsweptFacts
 pub mod UnsweptPass
 pub mod UnsweptSound
+pub mod Vocabulary

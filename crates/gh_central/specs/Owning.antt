@@ -1,15 +1,6 @@
 -- What the stores change that give a span back, take one and free its pages.
 use Rattle.std.specs.Prelude.{◌≡◌, ◌≢◌, ℕ}
-use Rattle.gh_base.specs.declared.cell.Ask.{Ask}
-use Rattle.gh_base.specs.declared.cell.Ask.TheVariants.{Load, Store}
-use Rattle.gh_base.specs.declared.cell.Cell.{Cell}
-use Rattle.gh_base.specs.declared.cell.Cell.TheVariants.{Page}
-use Rattle.gh_base.specs.declared.pack.PageWord.TheVariants.{Head}
-use Rattle.gh_base.specs.declared.pack.SpanHead.{SpanHead}
-use Rattle.gh_base.specs.Cells.{Words}
-use Rattle.gh_base.specs.Packing.{FitsHead, page_of}
-use Rattle.gh_base.specs.Rows.{Row}
-use Rattle.gh_base.specs.Steps.{effect}
+use Rattle.gh_central.specs.Vocabulary.{Ask, Cell, effect, FitsHead, Head, Load, Page, page_of, Row, SpanHead, Store, Words}
 use Rattle.gh_central.specs.GiveBack as giving
 use Rattle.gh_central.specs.SweptPass.{owned_by}
 

@@ -1,18 +1,6 @@
 -- What is known at each stage of the pass for a swept span while any number of processors change the heap, under which rights, and the laws: what each step of its own is, that it is on a word that there is, and that what is known lasts whatever others do.
 use Rattle.std.specs.Prelude.{◌≡◌, ℕ, ◌+◌, ◌*◌, ◌/◌, ◌^◌, ◌<◌, Bool, true, false, Option, Some, None}
-use Rattle.gh_base.specs.declared.pack.PageWord.TheVariants as page
-use Rattle.gh_base.specs.declared.pack.SpanHead.{SpanHead}
-use Rattle.gh_base.specs.Cells.{InRange}
-use Rattle.gh_base.specs.Packing.{page_of}
-use Rattle.gh_base.specs.Rows.{Row, row_bit}
-use Rattle.gh_base.specs.Steps.{cell_of}
-use Rattle.gh_class.specs.declared.class.SizeClass.TheVariants.{Small}
-use Rattle.gh_class.specs.declared.class.SpanClass.{SpanClass}
-use Rattle.gh_class.specs.Classes.{pages_of, slot_words_of, slots_of}
-use Rattle.gh_heap.specs.Moves.{KeepsObjects, Leaves, Others, Steps, update}
-use Rattle.gh_heap.specs.Rights.{Arena, FullBefore, TidyBefore, Good, Right, Shared, View, view}
-use Rattle.gh_heap.specs.Spans.{IsSpan}
-use Rattle.gh_central.specs.declared.pass.PassStage.{PassStage}
+use Rattle.gh_central.specs.Vocabulary.{Arena, cell_of, FullBefore, Good, InRange, IsSpan, KeepsObjects, Leaves, Others, page_of, pages_of, PageWord, PassStage, Right, Row, row_bit, Shared, slot_words_of, slots_of, Small, SpanClass, SpanHead, Steps, TidyBefore, update, View, view}
 use Rattle.gh_central.specs.declared.pass.PassStage.TheVariants.{Look, Bits, Take, Ended}
 use Rattle.gh_central.specs.Owning.{WritesHead}
 use Rattle.gh_central.specs.SweptPass.{Pass, asks, given, goes}
@@ -30,7 +18,7 @@ sought m = record { class = Small m.wanted.class; noscan = m.wanted.noscan; page
 
 -- a swept span of the span class that nobody owns begins at page p
 pub record IsUnowned (wanted : SpanClass) (page_words : Row) (generation p : ℕ) (h : SpanHead) : Type 0 where
-  pub head : page_of (page_words p) ≡ page.Head h
+  pub head : page_of (page_words p) ≡ PageWord.Head h
   pub class : h.class ≡ Small wanted.class
   pub noscan : h.noscan ≡ wanted.noscan
   pub owner : h.owner ≡ 0

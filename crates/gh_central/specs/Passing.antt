@@ -1,17 +1,7 @@
 -- What the pass was told, and what its answer says of that.
 use Rattle.std.specs.Prelude.{◌≡◌, ℕ, suc, ◌+◌, ◌*◌, ◌<◌, ◌≤◌, Some, None}
-use Rattle.gh_base.specs.declared.cell.Cell.TheVariants.{Page, Alloc}
-use Rattle.gh_base.specs.declared.cell.Ask.{Ask}
-use Rattle.gh_base.specs.declared.cell.Ask.TheVariants.{Load, Store}
-use Rattle.gh_base.specs.declared.layout.Layout.{Layout}
-use Rattle.gh_base.specs.declared.pack.PageWord.TheVariants.{Head}
-use Rattle.gh_base.specs.declared.pack.SpanHead.{SpanHead}
-use Rattle.gh_base.specs.Packing.{head_word, page_of}
-use Rattle.gh_base.specs.Machines.{steps_of}
+use Rattle.gh_central.specs.Vocabulary.{Alloc, Ask, Head, head_word, Layout, Load, Page, page_of, slot_words_of, slots_of, Small, SpanClass, SpanHead, steps_of, Store}
 use Rattle.gh_base.specs.Routines as routine
-use Rattle.gh_class.specs.declared.class.SizeClass.TheVariants.{Small}
-use Rattle.gh_class.specs.declared.class.SpanClass.{SpanClass}
-use Rattle.gh_class.specs.Classes.{slot_words_of, slots_of}
 use Rattle.gh_central.specs.Slots.{LacksSlot}
 use Rattle.gh_central.specs.SweptPass.{Pass, alloc_word, asks, listing, opening, owned_by, pages_gone}
 

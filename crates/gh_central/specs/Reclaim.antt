@@ -1,23 +1,10 @@
 -- Pages of empty spans are freed: what is asked for at each stage, where that leads, what it has given, and that it writes what a sweep does.
 use Rattle.std.specs.Prelude.{ℕ, ◌+◌, ◌*◌, ◌%◌, Bool, nat_lt, ◌==◌, if◌then◌else◌, Option, Some, None}
-use Rattle.gh_base.specs.declared.cell.Cell.TheVariants as cell
-use Rattle.gh_base.specs.declared.cell.Ask.{Ask}
-use Rattle.gh_base.specs.declared.cell.Ask.TheVariants.{Load, Store}
-use Rattle.gh_base.specs.declared.layout.Layout.{Layout}
-use Rattle.gh_base.specs.declared.pack.PageWord.{PageWord}
-use Rattle.gh_base.specs.declared.pack.PageWord.TheVariants as word
-use Rattle.gh_base.specs.declared.pack.SpanHead.{SpanHead}
-use Rattle.gh_base.specs.Machines.{Listing}
-use Rattle.gh_base.specs.Packing.{page_of}
-use Rattle.gh_central.specs.declared.reclaim.Reclaim.{Reclaim}
-use Rattle.gh_central.specs.declared.reclaim.ReclaimStage.{ReclaimStage}
-use Rattle.gh_central.specs.declared.reclaim.ReclaimStage.TheVariants.{Look, Sweep, Wait, Bits, Body, Head, Ended}
+use Rattle.gh_central.specs.Vocabulary.{Ask, Bits, Body, Cell, Ended, Layout, Listing, Load, Look, Lost, page_of, PageWord, Reclaim, ReclaimStage, SpanHead, Store, Sweep, SweepEnd, Sweeping, Swept, Wait}
+use Rattle.gh_central.specs.declared.reclaim.ReclaimStage.TheVariants.{Head}
 use Rattle.gh_central.specs.ReclaimSound.{Sound}
 use Rattle.gh_central.specs.SweptPass.{alloc_word}
-use Rattle.gh_sweep.specs.declared.sweep.SweepEnd.{SweepEnd}
-use Rattle.gh_sweep.specs.declared.sweep.SweepEnd.TheVariants.{Lost, Swept}
 use Rattle.gh_sweep.specs.Listing as sweep
-use Rattle.gh_sweep.specs.Listing.{Sweeping}
 
 -- the sweep generation, and the routine's stage
 abbrev pub Reclaiming : Type 0
@@ -51,13 +38,13 @@ module _ (l : Layout) where
   body_page page distance = (page + distance) % l.pages
 
   abbrev pub asks_at : ReclaimStage → Ask
-  asks_at (Look page) = Load (cell.Page page)
+  asks_at (Look page) = Load (Cell.Page page)
   asks_at (Sweep page pages sw) = sweep.asks l sw
-  asks_at (Wait page) = Load (cell.Page page)
-  asks_at (Bits page pages i) = Load (cell.Alloc (alloc_word l page i))
-  asks_at (Body page pages distance) = Store (cell.Page (body_page page distance)) 0
-  asks_at (Head page pages) = Store (cell.Page page) 0
-  asks_at Ended = Load cell.Touch
+  asks_at (Wait page) = Load (Cell.Page page)
+  asks_at (Bits page pages i) = Load (Cell.Alloc (alloc_word l page i))
+  asks_at (Body page pages distance) = Store (Cell.Page (body_page page distance)) 0
+  asks_at (Head page pages) = Store (Cell.Page page) 0
+  asks_at Ended = Load Cell.Touch
 
   abbrev pub look_from : ℕ → ReclaimStage
   look_from page = if nat_lt page l.pages then Look page else Ended
@@ -82,15 +69,15 @@ module _ (m : Reclaiming) where
 
   -- another's sweep is waited for until the number is that of the sweep generation
   abbrev pub after_wait : ℕ → PageWord → ReclaimStage
-  after_wait page word.Free = Wait page
-  after_wait page (word.Body b) = Wait page
-  after_wait page (word.Head h) = if is_swept h then Bits page h.pages 0 else Wait page
+  after_wait page PageWord.Free = Wait page
+  after_wait page (PageWord.Body b) = Wait page
+  after_wait page (PageWord.Head h) = if is_swept h then Bits page h.pages 0 else Wait page
 
 module _ (l : Layout) (m : Reclaiming) where
   abbrev pub after_page : ℕ → PageWord → ReclaimStage
-  after_page page word.Free = look_from l (page + 1)
-  after_page page (word.Body b) = look_from l (page + 1)
-  after_page page (word.Head h) = if h.owner == 0 then unowned m page h else look_from l (page + h.pages)
+  after_page page PageWord.Free = look_from l (page + 1)
+  after_page page (PageWord.Body b) = look_from l (page + 1)
+  after_page page (PageWord.Head h) = if h.owner == 0 then unowned m page h else look_from l (page + h.pages)
 
   abbrev pub goes_at : ReclaimStage → ℕ → ReclaimStage
   goes_at (Look page) found = after_page page (page_of found)

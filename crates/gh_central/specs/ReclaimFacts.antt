@@ -1,21 +1,10 @@
 -- What is known at each stage of the freeing of empty spans while any number of processors change the heap and sweep spans, under which rights, and the laws: what each step of its own is, that it is on a word that there is, that what is known lasts whatever others do, and that each span that nobody owns is swept and has an object when it ends.
 use Rattle.std.specs.Prelude.{◌≡◌, ℕ, ◌+◌, ◌*◌, ◌<◌, ◌≤◌, Bool, true, Option, Some, None}
-use Rattle.gh_base.specs.declared.layout.Layout.{Layout}
-use Rattle.gh_base.specs.declared.pack.PageWord.TheVariants as page
-use Rattle.gh_base.specs.declared.pack.SpanHead.{SpanHead}
-use Rattle.gh_base.specs.Cells.{InRange}
-use Rattle.gh_base.specs.Packing.{FitsHead, page_of}
-use Rattle.gh_base.specs.Rows.{Row, row_bit}
-use Rattle.gh_base.specs.Steps.{cell_of, effect}
-use Rattle.gh_heap.specs.Moves.{KeepsObjects, Leaves, Others, Steps, freed_yet}
-use Rattle.gh_heap.specs.Rights.{Arena, Good, Right, Rights, Shared, TidyBefore, View, view}
-use Rattle.gh_heap.specs.Spans.{BeingFreed, Freeing, IsEmpty}
-use Rattle.gh_central.specs.declared.reclaim.ReclaimStage.{ReclaimStage}
-use Rattle.gh_central.specs.declared.reclaim.ReclaimStage.TheVariants.{Look, Sweep, Wait, Bits, Body, Head, Ended}
+use Rattle.gh_central.specs.Vocabulary.{Arena, BeingFreed, Bits, Body, cell_of, effect, Ended, FitsHead, freed_yet, Freeing, Good, InRange, is_busy, IsEmpty, KeepsObjects, Layout, Leaves, Look, Others, page_of, PageWord, ReclaimStage, Right, Rights, Row, row_bit, Shared, SpanHead, Steps, Sweep, Sweeping, TidyBefore, View, view, Wait}
+use Rattle.gh_central.specs.declared.reclaim.ReclaimStage.TheVariants.{Head}
 use Rattle.gh_central.specs.Owning.{FreesPage}
 use Rattle.gh_central.specs.Reclaim.{Reclaiming, asks, given, goes, sweep_in}
 use Rattle.gh_central.specs.Sweeping.{SweepLeaves}
-use Rattle.gh_sweep.specs.Listing.{is_busy, Sweeping}
 
 -- The right that a stage stands for, beside the lock.
 
@@ -44,7 +33,7 @@ pub record LooksAt (z : Arena) (v : View) (p : ℕ) : Type 0 where
 -- a span that nobody owns begins at page p: so it was found, and only its number may have changed since
 pub record IsUnowned (page_words : Row) (p : ℕ) : Type 0 where
   pub h : SpanHead
-  pub head : page_of (page_words p) ≡ page.Head h
+  pub head : page_of (page_words p) ≡ PageWord.Head h
   pub owner : h.owner ≡ 0
 
 pub record WaitsFor (z : Arena) (v : View) (p : ℕ) : Type 0 where
@@ -64,7 +53,7 @@ pub record SweepsIt (z : Arena) (v : View) (p count : ℕ) (sw : Sweeping) : Typ
 -- a swept span of so many pages that nobody owns begins at page p
 pub record IsIdleSpan (page_words : Row) (generation p count : ℕ) : Type 0 where
   pub h : SpanHead
-  pub head : page_of (page_words p) ≡ page.Head h
+  pub head : page_of (page_words p) ≡ PageWord.Head h
   pub owner : h.owner ≡ 0
   pub size : h.pages ≡ count
   pub number : h.number ≡ generation

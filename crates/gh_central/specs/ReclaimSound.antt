@@ -1,10 +1,7 @@
 -- What the freeing of empty spans knows of its own numbers, whatever it is told.
 use Rattle.std.specs.Prelude.{ℕ, ◌*◌, ◌^◌, ◌<◌, ◌≤◌}
-use Rattle.gh_base.specs.declared.layout.Layout.{Layout}
-use Rattle.gh_base.specs.Machines.{Runs}
-use Rattle.gh_central.specs.declared.reclaim.ReclaimStage.{ReclaimStage}
-use Rattle.gh_central.specs.declared.reclaim.ReclaimStage.TheVariants.{Look, Sweep, Wait, Bits, Body, Head, Ended}
-use Rattle.gh_central.specs.declared.reclaim.Reclaim.{Reclaim}
+use Rattle.gh_central.specs.Vocabulary.{Bits, Body, Ended, Layout, Look, Reclaim, ReclaimStage, Runs, Sweep, Wait}
+use Rattle.gh_central.specs.declared.reclaim.ReclaimStage.TheVariants.{Head}
 use Rattle.gh_sweep.specs.Listing as sweep
 
 -- the page is one of the arena, and a head word has room for the number of pages

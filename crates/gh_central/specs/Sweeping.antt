@@ -1,11 +1,6 @@
 -- What a sweep leaves to the routine that runs it. That the routine's steps are the sweep's meanwhile, and where one begins, is said in gh_sweep.
 use Rattle.std.specs.Prelude.{◌≡◌, ◌≢◌, ℕ}
-use Rattle.gh_base.specs.declared.pack.PageWord.TheVariants.{Head}
-use Rattle.gh_base.specs.declared.pack.SpanHead.{SpanHead}
-use Rattle.gh_base.specs.Packing.{page_of}
-use Rattle.gh_heap.specs.Moves.{Leaves}
-use Rattle.gh_heap.specs.Rights.{View}
-use Rattle.gh_heap.specs.Spans.{numbered_by}
+use Rattle.gh_central.specs.Vocabulary.{Head, Leaves, numbered_by, page_of, SpanHead, View}
 pub use Rattle.gh_sweep.specs.Running.{BeginsSweep, on_from, RunsSweeps, SweepsOn}
 
 -- What a step of a sweep leaves to who runs it, of the heap: its rights, the objects, what a walk has seen, the heads of spans that somebody owns, and of those that nobody owns, up to their numbers.

@@ -1,24 +1,10 @@
 -- The pass for a swept span with room: what it asks for at each stage, where that leads, what it has given, what it knows of its own numbers, and that it writes page words.
 use Rattle.std.specs.Prelude.{ℕ, ◌+◌, ◌*◌, ◌%◌, ◌^◌, ◌<◌, Bool, true, false, not, nat_lt, ◌==◌, ◌&&◌, if◌then◌else◌, Option, Some, None}
-use Rattle.std.specs.Bool.{beq}
-use Rattle.gh_base.specs.declared.cell.Cell.TheVariants as cell
-use Rattle.gh_base.specs.declared.cell.Ask.{Ask}
-use Rattle.gh_base.specs.declared.cell.Ask.TheVariants.{Load, Store}
-use Rattle.gh_base.specs.declared.layout.Layout.{Layout}
-use Rattle.gh_base.specs.declared.pack.PageWord.{PageWord}
-use Rattle.gh_base.specs.declared.pack.PageWord.TheVariants.{Free, Head, Body}
-use Rattle.gh_base.specs.declared.pack.SpanHead.{SpanHead}
-use Rattle.gh_base.specs.Cells.{seats_of}
+use Rattle.gh_central.specs.Vocabulary.{Ask, beq, Cell, CLASSES, FitsHead, Free, Head, head_word, Large, Layout, Listing, Load, page_of, PageWord, PassStage, seats_of, slot_words_of, slots_of, Small, SpanClass, SpanHead, Store}
+use Rattle.gh_base.specs.declared.pack.PageWord.TheVariants.{Body}
 use Rattle.gh_base.specs.Footprints.{Footprint}
 use Rattle.gh_base.specs.Footprints as row
-use Rattle.gh_base.specs.Machines.{Listing}
-use Rattle.gh_base.specs.Packing.{FitsHead, page_of, head_word}
-use Rattle.gh_class.specs.declared.class.TheConstants.{CLASSES}
 use Rattle.gh_class.specs.declared.class.SizeClass.{SizeClass}
-use Rattle.gh_class.specs.declared.class.SizeClass.TheVariants.{Small, Large}
-use Rattle.gh_class.specs.declared.class.SpanClass.{SpanClass}
-use Rattle.gh_class.specs.Classes.{slot_words_of, slots_of}
-use Rattle.gh_central.specs.declared.pass.PassStage.{PassStage}
 use Rattle.gh_central.specs.declared.pass.PassStage.TheVariants.{Look, Bits, Take, Ended}
 use Rattle.gh_central.specs.declared.pass.SweptPass.{SweptPass}
 use Rattle.gh_central.specs.Slots.{lacks_slot}
@@ -54,6 +40,11 @@ abbrev pub given_at : PassStage → Option (Option ℕ)
 given_at (Ended taken) = Some taken
 given_at _ = None
 
+-- the span that it has found at a stage and is to take: its page and its head
+abbrev pub found_at : PassStage → Option (ℕ × SpanHead)
+found_at (Take page h) = Some (page, h)
+found_at _ = None
+
 -- it looks at a page
 abbrev pub looks : PassStage → Bool
 looks (Look page) = true
@@ -66,6 +57,10 @@ alloc_word l page i = (16 * page + i) % (16 * l.pages)
 abbrev pub look_from : Layout → ℕ → PassStage
 look_from l page = if nat_lt page l.pages then Look page else Ended None
 
+-- it has found the span at this page, and is to take it
+abbrev pub take_from : ℕ → SpanHead → PassStage
+take_from page h = Take page h
+
 module _ (m : Pass) where
   -- a span of the wanted span class that nobody owns, and that is swept
   abbrev pub is_wanted : SpanHead → Bool
@@ -77,10 +72,10 @@ module _ (m : Pass) where
 
 module _ (l : Layout) (m : Pass) where
   abbrev pub asks_at : PassStage → Ask
-  asks_at (Look page) = Load (cell.Page page)
-  asks_at (Bits page h i) = Load (cell.Alloc (alloc_word l page i))
-  asks_at (Take page h) = Store (cell.Page page) (head_word (owned_by (m.seat + 1) h))
-  asks_at (Ended taken) = Load cell.Touch
+  asks_at (Look page) = Load (Cell.Page page)
+  asks_at (Bits page h i) = Load (Cell.Alloc (alloc_word l page i))
+  asks_at (Take page h) = Store (Cell.Page page) (head_word (owned_by (m.seat + 1) h))
+  asks_at (Ended taken) = Load Cell.Touch
 
   abbrev pub after_page : ℕ → PageWord → PassStage
   after_page page Free = look_from l (page + 1)
@@ -89,7 +84,7 @@ module _ (l : Layout) (m : Pass) where
 
   abbrev pub after_bits : ℕ → SpanHead → (i found : ℕ) → PassStage
   after_bits page h i found =
-      if lacks_at m page i found then Take page h
+      if lacks_at m page i found then take_from page h
       else if nat_lt (i + 1) (16 * h.pages) then Bits page h (i + 1) else look_from l (page + h.pages)
 
   abbrev pub goes_at : PassStage → ℕ → PassStage

@@ -1,16 +1,7 @@
 -- What is known at each stage of the pass for an unswept span while any number of processors change the heap and sweep spans, under which rights, and the laws: what each step of its own is, that it is on a word that there is, and that what is known lasts whatever others do.
 use Rattle.std.specs.Prelude.{◌≡◌, ℕ, ◌+◌, ◌^◌, ◌<◌, Bool, true, false, Option, Some, None}
-use Rattle.gh_base.specs.declared.pack.SpanHead.{SpanHead}
-use Rattle.gh_base.specs.Cells.{InRange}
-use Rattle.gh_base.specs.Packing.{FitsHead}
-use Rattle.gh_base.specs.Steps.{cell_of, effect}
-use Rattle.gh_class.specs.declared.class.SizeClass.TheVariants.{Small}
-use Rattle.gh_class.specs.declared.class.SpanClass.{SpanClass}
-use Rattle.gh_heap.specs.Moves.{KeepsObjects, Leaves, Others, Steps, update}
-use Rattle.gh_heap.specs.Rights.{Arena, Good, Right, Shared, View, view}
-use Rattle.gh_sweep.specs.Listing.{is_busy, Sweeping}
-use Rattle.gh_central.specs.declared.unswept.UnsweptStage.{UnsweptStage}
-use Rattle.gh_central.specs.declared.unswept.UnsweptStage.TheVariants.{Look, Sweep, Take, Ended}
+use Rattle.gh_central.specs.Vocabulary.{Arena, cell_of, effect, FitsHead, Good, InRange, is_busy, KeepsObjects, Leaves, Others, Right, Shared, Small, SpanClass, SpanHead, Steps, Sweeping, Take, UnsweptStage, update, View, view}
+use Rattle.gh_central.specs.declared.unswept.UnsweptStage.TheVariants.{Look, Sweep, Ended}
 use Rattle.gh_central.specs.Owning.{WritesHead}
 use Rattle.gh_central.specs.PassFacts as swept
 use Rattle.gh_central.specs.PassFacts.{SpanIsTaken}

@@ -1,23 +1,9 @@
 -- The pass for an unswept span that has room once it is swept: what it asks for at each stage, where that leads, what it has given, and that it writes what a sweep does.
 use Rattle.std.specs.Prelude.{ℕ, ◌+◌, Bool, true, false, nat_lt, ◌==◌, ◌&&◌, if◌then◌else◌, Option, Some, None}
-use Rattle.std.specs.Bool.{beq}
-use Rattle.gh_base.specs.declared.cell.Cell.TheVariants as cell
-use Rattle.gh_base.specs.declared.cell.Ask.{Ask}
-use Rattle.gh_base.specs.declared.cell.Ask.TheVariants.{Load, Store}
-use Rattle.gh_base.specs.declared.layout.Layout.{Layout}
-use Rattle.gh_base.specs.declared.pack.PageWord.{PageWord}
-use Rattle.gh_base.specs.declared.pack.PageWord.TheVariants.{Free, Head, Body}
-use Rattle.gh_base.specs.declared.pack.SpanHead.{SpanHead}
-use Rattle.gh_base.specs.Machines.{Listing}
-use Rattle.gh_base.specs.Packing.{page_of, head_word}
-use Rattle.gh_class.specs.declared.class.SpanClass.{SpanClass}
-use Rattle.gh_sweep.specs.declared.sweep.SweepEnd.{SweepEnd}
-use Rattle.gh_sweep.specs.declared.sweep.SweepEnd.TheVariants.{Lost, Swept}
+use Rattle.gh_central.specs.Vocabulary.{Ask, beq, Cell, Free, Head, head_word, Layout, Listing, Load, Lost, once_swept, page_of, PageWord, SpanClass, SpanHead, Store, SweepEnd, Sweeping, Swept, Take, UnsweptPass, UnsweptStage}
+use Rattle.gh_base.specs.declared.pack.PageWord.TheVariants.{Body}
 use Rattle.gh_sweep.specs.Listing as sweep
-use Rattle.gh_sweep.specs.Listing.{once_swept, Sweeping}
-use Rattle.gh_central.specs.declared.unswept.UnsweptStage.{UnsweptStage}
-use Rattle.gh_central.specs.declared.unswept.UnsweptStage.TheVariants.{Look, Sweep, Take, Ended}
-use Rattle.gh_central.specs.declared.unswept.UnsweptPass.{UnsweptPass}
+use Rattle.gh_central.specs.declared.unswept.UnsweptStage.TheVariants.{Look, Sweep, Ended}
 use Rattle.gh_central.specs.SweptPass.{is_small, owned_by}
 use Rattle.gh_central.specs.UnsweptSound.{Sound}
 
@@ -57,10 +43,10 @@ after_sweep l page h sw (Some (Swept span)) = if span.clear then Take page (once
 
 module _ (l : Layout) (m : Unswept) where
   abbrev pub asks_at : UnsweptStage → Ask
-  asks_at (Look page) = Load (cell.Page page)
+  asks_at (Look page) = Load (Cell.Page page)
   asks_at (Sweep page h sw) = sweep.asks l sw
-  asks_at (Take page h) = Store (cell.Page page) (head_word (owned_by (m.seat + 1) h))
-  asks_at (Ended taken) = Load cell.Touch
+  asks_at (Take page h) = Store (Cell.Page page) (head_word (owned_by (m.seat + 1) h))
+  asks_at (Ended taken) = Load Cell.Touch
 
   abbrev pub after_page : ℕ → PageWord → UnsweptStage
   after_page page Free = look_from l (page + 1)

@@ -1,15 +1,9 @@
 -- What the pass for an unswept span knows of its own numbers, whatever it is told.
 use Rattle.std.specs.Prelude.{◌^◌, ◌<◌}
-use Rattle.gh_base.specs.Cells.{seats_of}
-use Rattle.gh_base.specs.Machines.{Runs}
-use Rattle.gh_base.specs.Packing.{FitsHead}
-use Rattle.gh_base.specs.declared.layout.Layout.{Layout}
-use Rattle.gh_class.specs.declared.class.TheConstants.{CLASSES}
+use Rattle.gh_central.specs.Vocabulary.{CLASSES, FitsHead, Layout, Runs, seats_of, Take, UnsweptPass, UnsweptStage}
 use Rattle.gh_sweep.specs.Listing as sweep
 use Rattle.gh_sweep.specs.Sound.{FitsSweep}
-use Rattle.gh_central.specs.declared.unswept.UnsweptStage.{UnsweptStage}
-use Rattle.gh_central.specs.declared.unswept.UnsweptStage.TheVariants.{Look, Sweep, Take, Ended}
-use Rattle.gh_central.specs.declared.unswept.UnsweptPass.{UnsweptPass}
+use Rattle.gh_central.specs.declared.unswept.UnsweptStage.TheVariants.{Look, Sweep, Ended}
 
 -- the page is one of the arena, and the head fits its word; the sweep that it runs is sound, and asks for a step
 abbrev pub IsStage : Layout → UnsweptStage → Type 0

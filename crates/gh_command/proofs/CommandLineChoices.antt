@@ -1,15 +1,6 @@
 -- The parser's line of the words behind a subcommand is what their choices ask for.
-use Rattle.std.proofs.Common.{◌≡◌, ◌∙◌, ◌&&◌, ◌++◌, ℕ, Bool, true, false, not, refl, sym, ap, ap₂, List, [], ◌∷◌, Option, Some, None, arith}
-use Rattle.std.specs.Prelude.{if◌then◌else◌, option_and_then}
-use Rattle.std.specs.Option.{option_map_or}
-use Rattle.std.specs.Str.{bytes_eq}
-use Rattle.clap.specs.Lexer.{long_of}
-use Rattle.clap.specs.Faults.{settle_fault, use_fault}
-use Rattle.clap.specs.Walk.{Held, Row, has_row, idle, option, reacted, settled, used}
-use Rattle.clap.specs.declared.parser.matches.ValueSource.TheVariants.{CommandLine}
-use Rattle.gh_command.specs.CommandLine.{Choice, LineOption, Reading, Text, asked_for, begun, choices, flag_value, is_chosen, is_flag, is_none, is_taken_by, is_value, option_named, option_takes, with_choice}
-use Rattle.gh_command.specs.CommandLineParser.{no_error_comes}
-use Rattle.gh_command.specs.declared.line.Line.{Line}
+use Rattle.std.proofs.Common.{◌≡◌, ◌∙◌, ◌&&◌, ◌++◌, ℕ, Bool, true, false, not, refl, sym, ap, ap₂, List, [], ◌∷◌, Option, Some, None, arith, if◌then◌else◌, option_and_then}
+use Rattle.gh_command.proofs.Vocabulary.{asked_for, begun, bytes_eq, Choice, choices, CommandLine, flag_value, has_row, Held, idle, is_chosen, is_flag, is_none, is_taken_by, is_value, Line, LineOption, long_of, no_error_comes, option, option_map_or, option_named, option_takes, reacted, Reading, Row, settle_fault, settled, Text, use_fault, used, with_choice}
 use Rattle.gh_command.proofs.CommandLineEnd.{IsRead, Sub, end_fails, end_good, line_from}
 use Rattle.gh_command.proofs.CommandLineRows.{has_made, made_more, row, rows_made}
 use Rattle.gh_command.proofs.CommandLineRules.{built_option, flag_passes, flag_used, rules, use_passes, used_is}

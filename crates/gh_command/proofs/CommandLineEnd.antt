@@ -1,23 +1,9 @@
 -- What the parser makes of the choices where the words behind a subcommand have ended.
-use Rattle.std.proofs.Common.{◌≡◌, ◌∙◌, ◌&&◌, ◌||◌, ◌++◌, Bool, true, false, not, refl, sym, ap, ap₂, List, [], ◌∷◌, Option, Some, None, codes, is_some, arith}
-use Rattle.std.specs.Prelude.{if◌then◌else◌, option_and_then, option_map}
-use Rattle.std.specs.List.{fold, list_all, list_any}
-use Rattle.std.specs.Option.{option_map_or, option_or}
-use Rattle.std.specs.Str.{bytes_eq}
+use Rattle.std.proofs.Common.{◌≡◌, ◌∙◌, ◌&&◌, ◌||◌, ◌++◌, Bool, true, false, not, refl, sym, ap, ap₂, List, [], ◌∷◌, Option, Some, None, codes, is_some, arith, if◌then◌else◌, option_and_then, option_map}
 use Rattle.std.proofs.lemmas.List.{append-nil}
 use Rattle.std.proofs.lemmas.List.Folds.{find-append}
-use Rattle.std.proofs.lemmas.Slice.Eq.{bytes_eq-Decides}
-use Rattle.clap.specs.Facts.{explicit_source}
-use Rattle.clap.specs.Faults.{check_fault, default_fault, defaults_fault, settle_fault, walk_fault}
-use Rattle.clap.specs.Kinds.{Kinds, check_kinds, or_else}
+use Rattle.gh_command.proofs.Vocabulary.{AnyText, both, bytes_eq, bytes_eq-Decides, check_fault, check_kinds, Choice, default_fault, defaults_fault, DefaultValue, ended, explicit_source, finished, fold, has_required, has_row, Held, is_chosen, Kinds, Line, LineOption, list_all, list_any, no_error_comes, NoValue, Number, option_map_or, option_or, or_else, Row, settle_fault, settled, Shape, subcommand_shape, Text, Value, Walk, walk_fault, walked, with_default}
 use Rattle.clap.specs.Takes.{is_given}
-use Rattle.clap.specs.Walk.{Held, Row, Walk, finished, has_row, settled, walked, with_default}
-use Rattle.clap.specs.Simple.{Shape}
-use Rattle.clap.proofs.WalkLemmas.{both}
-use Rattle.clap.specs.declared.parser.matches.ValueSource.TheVariants.{DefaultValue}
-use Rattle.gh_command.specs.CommandLine.{AnyText, Choice, LineOption, NoValue, Number, Text, Value, ended, has_required, is_chosen}
-use Rattle.gh_command.specs.CommandLineParser.{no_error_comes, subcommand_shape}
-use Rattle.gh_command.specs.declared.line.Line.{Line}
 use Rattle.gh_command.proofs.CommandLineRows.{found_row, given_made, given_row, row, rows_made}
 use Rattle.gh_command.proofs.CommandLineRules.{built_option, rules}
 

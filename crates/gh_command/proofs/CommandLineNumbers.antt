@@ -1,15 +1,8 @@
 -- What a reader of numbers makes of a word.
-use Rattle.std.proofs.Common.{◌≡◌, ◌∙◌, ◌<◌, ◌^◌, ◌&&◌, ℕ, true, List, [], ◌∷◌, nat_lt, Option, Some, None, Result, refl, ap, lt-ltb, ltb-true, arith}
-use Rattle.std.specs.Prelude.{option_and_then}
-use Rattle.std.specs.List.{list_all}
+use Rattle.std.proofs.Common.{◌≡◌, ◌∙◌, ◌<◌, ◌^◌, ◌&&◌, ℕ, true, List, [], ◌∷◌, nat_lt, Option, Some, None, Result, refl, ap, lt-ltb, ltb-true, arith, option_and_then}
 use Rattle.std.specs.Char.{digit_value}
-use Rattle.std.specs.Str.Parse.{AllDigits, IsNumeral, ParsesUnsigned, digits_value, without_leading_plus}
-use Rattle.clap.specs.Matches.{ReadsOne, found_of, one_text}
-use Rattle.clap.specs.Walk.{rows_of}
+use Rattle.gh_command.proofs.Vocabulary.{AllDigits, both, digits_value, found_number, found_of, is_numeral, IsNumeral, list_all, one_text, one_text-rows, ParsesUnsigned, ReadsOne, rows_of, u64_of, without_leading_plus}
 use Rattle.clap.specs.declared.parser.matches.ArgMatches.{ArgMatches}
-use Rattle.clap.proofs.WalkLemmas.{both, one_text-rows}
-use Rattle.gh_command.specs.CommandLine.{is_numeral, u64_of}
-use Rattle.gh_command.specs.CommandLineParser.{found_number}
 
 digits_pass : (ds : List ℕ) → AllDigits 10 ds → list_all (λ d. nat_lt (digit_value d) 10) ds ≡ true
 digits_pass [] h = refl

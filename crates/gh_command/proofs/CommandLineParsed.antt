@@ -1,21 +1,10 @@
 -- The parser's line is the command line.
 use Rattle.std.proofs.Common.{◌≡◌, ◌∙◌, ◌++◌, Bool, true, false, refl, sym, ap, subst, true≢false, List, [], ◌∷◌, codes, is_some, Option, Some, None, ◌⊎◌, if◌then◌else◌, append-nil, append_assoc, arith}
-use Rattle.std.specs.List.{fold}
-use Rattle.std.specs.Str.{bytes_eq}
-use Rattle.std.proofs.lemmas.Slice.Eq.{bytes_eq-Decides}
-use Rattle.clap.specs.Faults.{check_fault, defaults_fault, entered_fault, fault_of, flags_fault, is_simple_and_free, level_fault, settle_fault, turn_fault, walk_fault}
-use Rattle.clap.specs.Kinds.{IsAmong, Kinds, or_else}
+use Rattle.gh_command.proofs.Vocabulary.{App, built, bundle_met, bytes_eq, bytes_eq-Decides, check_fault, command_line, defaults_fault, entered, entered_fault, fault_of, finished, flags_fault, fold, found_line, found_replay, found_run, found_script, Gen, goheap_app, is_simple, is_simple_and_free, IsAmong, Kinds, level_fault, Line, long_of, Names, names_of, no_error_comes, nothing_held, or_else, parsed_line, replay_options, Row, rows_after, Rule, run_options, script_options, settle_fault, settled, Shape, short_of, Soak, subcommand_of, Text, turn_fault, Walk, walk_fault, walk_from, walked}
 use Rattle.clap.specs.declared.error.kind.ErrorKind.{ErrorKind}
 use Rattle.clap.specs.declared.error.kind.ErrorKind.TheVariants.{OutOfMemory}
-use Rattle.clap.specs.Lexer.{long_of, short_of}
-use Rattle.clap.specs.Simple.{App, Shape, built, entered, is_simple, names_of, subcommand_of}
-use Rattle.clap.specs.Walk.{Names, Row, Rule, Walk, bundle_met, finished, nothing_held, rows_after, settled, walk_from, walked}
 use Rattle.clap.proofs.FaultLemmas.{stopped_fault}
 use Rattle.clap.proofs.OnLiterals.{clap_on_literals}
-use Rattle.gh_command.specs.CommandLine.{Text, command_line, replay_options, run_options, script_options}
-use Rattle.gh_command.specs.CommandLineParser.{found_line, found_replay, found_run, found_script, goheap_app, no_error_comes, parsed_line}
-use Rattle.gh_command.specs.declared.line.Line.{Line}
-use Rattle.gh_command.specs.declared.line.Line.TheVariants.{Gen, Soak}
 use Rattle.gh_command.proofs.CommandLineChoices.{parsed_choices}
 use Rattle.gh_command.proofs.CommandLineEnd.{Sub, leaf}
 use Rattle.gh_command.proofs.CommandLineRules.{rules, same_text}

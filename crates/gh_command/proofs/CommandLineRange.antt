@@ -1,14 +1,6 @@
 -- The numbers of a line that is taken are in their ranges.
-use Rattle.std.proofs.Common.{◌≡◌, ◌≤◌, ◌||◌, ◌++◌, ℕ, Bool, true, false, not, refl, ap, subst, List, [], ◌∷◌, Option, Some, None, codes, arith}
-use Rattle.std.specs.Prelude.{find, if◌then◌else◌, option_and_then, option_map}
-use Rattle.std.specs.Option.{option_or}
-use Rattle.std.specs.Str.{bytes_eq}
-use Rattle.std.proofs.lemmas.Slice.Eq.{bytes_eq-Decides}
-use Rattle.clap.specs.Lexer.{long_of}
-use Rattle.gh_replay.specs.declared.schedule.Turn.{Turn}
-use Rattle.gh_command.specs.CommandLine.{Choice, LineOption, Reading, Text, asked_for, begun, budget, choices, chosen, command_line, ended, flag_value, is_chosen, is_end, is_flag, is_number_in, is_value, next, number_said, replay_by, replay_of, replay_options, run_of, run_options, script_by, script_asked_for, script_options, seed, size, option_takes, u64_of, with_choice, with_flag}
-use Rattle.gh_command.specs.declared.line.Line.{Line}
-use Rattle.gh_command.specs.declared.line.Line.TheVariants.{Gen, Replay, Soak}
+use Rattle.std.proofs.Common.{◌≡◌, ◌≤◌, ◌||◌, ◌++◌, ℕ, Bool, true, false, not, refl, ap, subst, List, [], ◌∷◌, Option, Some, None, codes, arith, find, if◌then◌else◌, option_and_then, option_map}
+use Rattle.gh_command.proofs.Vocabulary.{asked_for, begun, budget, bytes_eq, bytes_eq-Decides, Choice, choices, chosen, command_line, ended, flag_value, Gen, is_chosen, is_end, is_flag, is_number_in, is_value, Line, LineOption, long_of, next, number_said, option_or, option_takes, Reading, Replay, replay_by, replay_of, replay_options, run_of, run_options, script_asked_for, script_by, script_options, seed, size, Soak, Text, Turn, u64_of, with_choice, with_flag}
 
 -- ---- each choice is a flag, or of a value that its option takes
 

@@ -1,15 +1,9 @@
 -- The rows that stand for choices.
-use Rattle.std.proofs.Common.{◌≡◌, ◌∙◌, ◌++◌, ◌||◌, Bool, true, false, true≢false, refl, sym, ap, List, [], ◌∷◌, Option, Some, None, arith}
-use Rattle.std.specs.Prelude.{find, option_and_then}
-use Rattle.std.specs.Option.{option_map_or, option_or}
-use Rattle.std.specs.Str.{bytes_eq}
+use Rattle.std.proofs.Common.{◌≡◌, ◌∙◌, ◌++◌, ◌||◌, Bool, true, false, true≢false, refl, sym, ap, List, [], ◌∷◌, Option, Some, None, arith, find, option_and_then}
 use Rattle.std.proofs.lemmas.List.{append-nil}
-use Rattle.clap.specs.Facts.{explicit_source}
-use Rattle.clap.specs.Walk.{Row, at_row, has_row, with_values, without}
+use Rattle.gh_command.proofs.Vocabulary.{at_row, bytes_eq, Choice, chosen, CommandLine, explicit_source, has_row, is_chosen, option_map_or, option_or, Row, Text, with_values, without}
 use Rattle.clap.specs.declared.builder.value_parser.Reading.TheVariants.{AsWritten}
 use Rattle.clap.specs.declared.parser.matches.ValueSource.{ValueSource}
-use Rattle.clap.specs.declared.parser.matches.ValueSource.TheVariants.{CommandLine}
-use Rattle.gh_command.specs.CommandLine.{Choice, Text, chosen, is_chosen}
 
 abbrev pub row : ValueSource → Text → Text → Row
 row source id value = record { id = id; values = value ∷ []; count = None; source = Some source; reading = AsWritten }

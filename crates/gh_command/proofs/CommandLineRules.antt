@@ -1,15 +1,6 @@
 -- The rules of a subcommand's options as the parser builds them, and what it looks for among them.
-use Rattle.std.proofs.Common.{◌≡◌, ◌∙◌, ◌&&◌, ◌++◌, ℕ, Bool, true, false, not, refl, sym, ap, List, [], ◌∷◌, map, None, arith}
-use Rattle.std.specs.Prelude.{option_map}
-use Rattle.std.specs.Str.{bytes_eq}
-use Rattle.std.proofs.lemmas.Slice.Eq.{bytes_eq-Decides}
-use Rattle.clap.specs.Faults.{use_fault}
-use Rattle.clap.specs.Walk.{Row, Rule, arg_by_id, arg_by_index, arg_by_long, arg_by_short, has_row, most_values, takes_values, used}
-use Rattle.clap.specs.Simple.{filled, with_index}
-use Rattle.clap.specs.declared.parser.matches.ValueSource.TheVariants.{CommandLine}
-use Rattle.clap.proofs.WalkLemmas.{find-map}
-use Rattle.gh_command.specs.CommandLine.{AnyText, LineOption, NoValue, Number, Text, Value, flag_value, is_none, is_taken_by, option_named}
-use Rattle.gh_command.specs.CommandLineParser.{no_error_comes, option_rule}
+use Rattle.std.proofs.Common.{◌≡◌, ◌∙◌, ◌&&◌, ◌++◌, ℕ, Bool, true, false, not, refl, sym, ap, List, [], ◌∷◌, map, None, arith, option_map}
+use Rattle.gh_command.proofs.Vocabulary.{AnyText, arg_by_id, arg_by_index, arg_by_long, arg_by_short, bytes_eq, bytes_eq-Decides, CommandLine, filled, find-map, flag_value, has_row, is_none, is_taken_by, LineOption, most_values, no_error_comes, NoValue, Number, option_named, option_rule, Row, Rule, takes_values, Text, use_fault, used, Value, with_index}
 use Rattle.gh_command.proofs.CommandLineRows.{row, used_row}
 
 -- the rule of an option, as built

@@ -1,12 +1,6 @@
 -- The subcommands, and what is found of the choices of each.
-use Rattle.std.proofs.Common.{◌≡◌, ◌∙◌, ℕ, Bool, refl, ap, ap₂, List, Option, Some, None, codes, arith}
-use Rattle.std.specs.Prelude.{option_and_then, slice_get}
-use Rattle.std.specs.Option.{option_or}
-use Rattle.clap.specs.Walk.{Row, first_of, one_of, row_text}
-use Rattle.gh_replay.specs.declared.schedule.Turn.{Turn}
-use Rattle.gh_command.specs.CommandLine.{Choice, LineOption, Text, budget, chosen, is_given, list_said, number_said, replay_by, replay_of, replay_options, run_of, run_options, script_by, script_asked_for, script_options, seed, u64_of}
-use Rattle.gh_command.specs.CommandLineParser.{found_check, found_list, found_replay, found_run, found_script}
-use Rattle.gh_command.specs.declared.line.Line.{Line}
+use Rattle.std.proofs.Common.{◌≡◌, ◌∙◌, ℕ, Bool, refl, ap, ap₂, List, Option, Some, None, codes, arith, option_and_then, slice_get}
+use Rattle.gh_command.proofs.Vocabulary.{budget, Choice, chosen, first_of, found_check, found_list, found_replay, found_run, found_script, is_given, Line, LineOption, list_said, number_said, one_of, option_or, replay_by, replay_of, replay_options, Row, row_text, run_of, run_options, script_asked_for, script_by, script_options, seed, Text, Turn, u64_of}
 use Rattle.gh_command.proofs.CommandLineEnd.{IsRead, Sub, default_named, defaulted, found_defaulted}
 use Rattle.gh_command.proofs.CommandLineRows.{read_made, rows_made}
 

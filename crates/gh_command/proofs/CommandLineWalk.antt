@@ -1,16 +1,6 @@
 -- What the parser makes of the words behind a subcommand.
-use Rattle.std.proofs.Common.{◌≡◌, ◌∙◌, ◌&&◌, ℕ, Bool, true, false, not, refl, sym, ap, subst, List, [], ◌∷◌, Option, Some, None}
-use Rattle.std.specs.Prelude.{if◌then◌else◌, option_and_then, option_map, slice_get}
-use Rattle.std.specs.List.{fold}
-use Rattle.std.specs.Str.{bytes_eq, chars}
-use Rattle.std.proofs.lemmas.Slice.Eq.{bytes_eq-Decides}
-use Rattle.clap.specs.Lexer.{long_of, short_of}
-use Rattle.clap.specs.Faults.{flags_fault, level_fault, settle_fault, turn_fault, use_fault, walk_fault}
-use Rattle.clap.specs.Kinds.{Kinds, or_else}
-use Rattle.clap.specs.Walk.{Held, Row, Waiting, Walk, arg_by_id, arg_by_long, bundle_met, finished, idle, option, positional, nothing_held, reacted, rows_after, settled, subcommand_met, used, walked}
-use Rattle.gh_command.specs.CommandLine.{LineOption, Text, is_none, option_named}
-use Rattle.gh_command.specs.CommandLineParser.{no_error_comes}
-use Rattle.gh_command.specs.declared.line.Line.{Line}
+use Rattle.std.proofs.Common.{◌≡◌, ◌∙◌, ◌&&◌, ℕ, Bool, true, false, not, refl, sym, ap, subst, List, [], ◌∷◌, Option, Some, None, if◌then◌else◌, option_and_then, option_map, slice_get}
+use Rattle.gh_command.proofs.Vocabulary.{arg_by_id, arg_by_long, bundle_met, bytes_eq, bytes_eq-Decides, chars, finished, flags_fault, fold, Held, idle, is_none, Kinds, level_fault, Line, LineOption, long_of, no_error_comes, nothing_held, option, option_named, or_else, positional, reacted, Row, rows_after, settle_fault, settled, short_of, subcommand_met, Text, turn_fault, use_fault, used, Waiting, Walk, walk_fault, walked}
 use Rattle.gh_command.proofs.CommandLineEnd.{Sub, end_fails, end_fault, leaf, line_from, passes_alone, passes_both}
 use Rattle.gh_command.proofs.CommandLineRules.{built_option, by_id, by_index, by_long, by_short, one_value, rules, same_text, takes_values_is, use_fails}
 

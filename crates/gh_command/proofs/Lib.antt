@@ -7,3 +7,4 @@ pub mod CommandLineWalk
 pub mod CommandLineChoices
 pub mod CommandLineSubs
 pub mod CommandLineParsed
+pub mod Vocabulary

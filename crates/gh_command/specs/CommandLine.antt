@@ -10,7 +10,6 @@ use Rattle.clap.specs.Lexer.{long_of, short_of}
 use Rattle.gh_replay.specs.ListText.{list_of}
 use Rattle.gh_replay.specs.declared.schedule.Turn.{Turn}
 use Rattle.gh_command.specs.declared.line.Line.{Line}
-use Rattle.gh_command.specs.declared.line.Line.TheVariants as line
 
 -- the bytes of a word
 abbrev pub Text : Type 0
@@ -205,11 +204,11 @@ abbrev pub script_options : List LineOption
 script_options = required seed ∷ required size ∷ []
 
 abbrev pub run_of : List Choice → Option Line
-run_of made = Some line.Run
+run_of made = Some Line.Run
 
 -- a replay under a budget, with a seed or none, and a list, which is checked or not
 abbrev pub replay_by : Option ℕ → Option ℕ → Option (List Turn) → Bool → Option Line
-replay_by (Some turns) drawn (Some items) checked = Some (line.Replay (record { list = items; seed = drawn }) turns checked)
+replay_by (Some turns) drawn (Some items) checked = Some (Line.Replay (record { list = items; seed = drawn }) turns checked)
 replay_by (Some turns) drawn None checked = None
 replay_by None drawn items checked = None
 
@@ -237,8 +236,8 @@ abbrev pub subcommand_line : Text → List Text → Option Line
 subcommand_line name words =
     if bytes_eq name (codes "run") then asked_for run_options run_of words
     else (if bytes_eq name (codes "replay") then asked_for replay_options replay_of words
-    else (if bytes_eq name (codes "gen") then asked_for script_options (script_asked_for line.Gen) words
-    else (if bytes_eq name (codes "soak") then asked_for script_options (script_asked_for line.Soak) words
+    else (if bytes_eq name (codes "gen") then asked_for script_options (script_asked_for Line.Gen) words
+    else (if bytes_eq name (codes "soak") then asked_for script_options (script_asked_for Line.Soak) words
     else None)))
 
 -- what the words ask for, none where the command does not take them: the program's name, a

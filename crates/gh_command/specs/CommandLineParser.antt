@@ -5,11 +5,9 @@ use Rattle.clap.specs.Words.{App, Kinds, Row, Rule, Shape, fault_of, first_of, n
 use Rattle.clap.specs.declared.builder.action.ArgAction.{ArgAction}
 use Rattle.clap.specs.declared.builder.action.ArgAction.TheVariants.{Set, SetTrue}
 use Rattle.clap.specs.declared.builder.value_parser.ValueParser.{ValueParser}
-use Rattle.clap.specs.declared.builder.value_parser.ValueParser.TheVariants as vp
 use Rattle.gh_replay.specs.declared.schedule.Turn.{Turn}
 use Rattle.gh_command.specs.CommandLine.{LineOption, Text, Value, NoValue, Number, is_given, list_said, replay_by, replay_options, run_options, script_by, script_options, u64_of}
 use Rattle.gh_command.specs.declared.line.Line.{Line}
-use Rattle.gh_command.specs.declared.line.Line.TheVariants as line
 
 -- a flag sets its value, and another option takes it from the words
 abbrev pub action_for : Value → ArgAction
@@ -18,7 +16,7 @@ action_for _ = Set
 
 -- a number is read in its range
 abbrev pub parser_by : Value → Option ValueParser
-parser_by (Number least most) = Some (vp.Unsigned least most)
+parser_by (Number least most) = Some (ValueParser.Unsigned least most)
 parser_by _ = None
 
 abbrev pub defaults_by : Option Text → List Text
@@ -73,7 +71,7 @@ found_check rows = is_given (first_of (codes "check") rows)
 
 -- the run
 abbrev pub found_run : List Row → Option Line
-found_run rows = Some line.Run
+found_run rows = Some Line.Run
 
 -- the replay that was found
 abbrev pub found_replay : List Row → Option Line
@@ -89,8 +87,8 @@ found_line None = None
 found_line (Some found) =
     if bytes_eq found.0 (codes "run") then found_run found.1
     else (if bytes_eq found.0 (codes "replay") then found_replay found.1
-    else (if bytes_eq found.0 (codes "gen") then found_script line.Gen found.1
-    else (if bytes_eq found.0 (codes "soak") then found_script line.Soak found.1
+    else (if bytes_eq found.0 (codes "gen") then found_script Line.Gen found.1
+    else (if bytes_eq found.0 (codes "soak") then found_script Line.Soak found.1
     else None)))
 
 -- no kind of error comes

@@ -1,11 +1,8 @@
 -- What the bank holds lapses where marking ends: by the coordinator's stages.
 use Rattle.std.proofs.Common.{◌≡◌, ℕ, zero, suc, refl, sym, subst, ◌∙◌, arith}
-use Rattle.gh_base.specs.declared.cell.Cell.TheVariants as cell
+use Rattle.gh_coord.proofs.Vocabulary.{after_close, asks, asks_at, at_stage, by_event, Cell, Close, CloseStage, Coordinating, CoordStage, counted, Done, goes, goes_at, lapsed_at, Layout, Load, Store}
 use Rattle.gh_coord.specs.Closing as close
-use Rattle.gh_coord.specs.Events.{by_event}
 use Rattle.gh_coord.specs.Lapsing.{HasLapsed, Lapses, lapsed_by_now, LeavesOrClears, state, TheBankLapses}
-use Rattle.gh_coord.specs.Listing.{lapsed_at}
-use Rattle.gh_coord.proofs.Vocabulary.{after_close, asks, asks_at, at_stage, Close, CloseStage, Coordinating, CoordStage, counted, Done, goes, goes_at, Layout, Load, Store}
 
 abbrev Closes : CoordStage → Type 0
 Closes (Close e) = Unit {0}
@@ -21,9 +18,9 @@ module _ (l : Layout) (s m : Coordinating) (found : ℕ) where
 
   -- Any other step: as much has lapsed as before, and the step behind it clears no bank; where that stores the generation, this one has cleared the bank.
   record Goes (stage : CoordStage) (to : Coordinating) : Type 0 where
-    stays : (asks_at l s stage ≡ Load cell.Bank → ⊥) → lapsed_by_now to ≡ lapsed_at m.lapsed stage
-    clears : (value : ℕ) → asks l to ≡ Store cell.Bank value → asks_at l s stage ≡ Load cell.Bank
-    ends : (generation : ℕ) → asks l to ≡ Store cell.Gen generation → asks_at l s stage ≡ Store cell.Bank 0
+    stays : (asks_at l s stage ≡ Load Cell.Bank → ⊥) → lapsed_by_now to ≡ lapsed_at m.lapsed stage
+    clears : (value : ℕ) → asks l to ≡ Store Cell.Bank value → asks_at l s stage ≡ Load Cell.Bank
+    ends : (generation : ℕ) → asks l to ≡ Store Cell.Gen generation → asks_at l s stage ≡ Store Cell.Bank 0
 
   -- it leads to another part than the end of marking
   aside : {stage : CoordStage} (to : Coordinating) → (Closes to.stage → ⊥) → lapsed_by_now to ≡ lapsed_at m.lapsed stage → Goes stage to
@@ -37,7 +34,7 @@ module _ (l : Layout) (s m : Coordinating) (found : ℕ) where
   goes_so Done is = subst (λ (stage : CoordStage). Goes stage m) is (aside m (λ x. subst Closes is x) refl)
   goes_so p is = by_event l m found (Goes p) p (λ e may. grind arith)
 
-lapses : (l : Layout) (s : Coordinating) (found : ℕ) → asks l s ≡ Load cell.Bank → Lapses l s found
+lapses : (l : Layout) (s : Coordinating) (found : ℕ) → asks l s ≡ Load Cell.Bank → Lapses l s found
 lapses l s found e = grind arith
 
 leads : (l : Layout) (s : Coordinating) (found : ℕ) → Goes l s (counted s) found s.stage (goes l s found)
@@ -48,7 +45,7 @@ module _ (l : Layout) (seat gogc minheap room : ℕ) (found : ℕ → ℕ) where
   abbrev now : ℕ → Coordinating
   now n = state l seat gogc minheap room found n
 
-  ends_so : (n generation : ℕ) → asks l (now n) ≡ Store cell.Gen generation → HasLapsed l seat gogc minheap room found n
+  ends_so : (n generation : ℕ) → asks l (now n) ≡ Store Cell.Gen generation → HasLapsed l seat gogc minheap room found n
   ends_so zero generation e = absurd (cc)
   ends_so (suc zero) generation e = absurd (let first = (leads l (now 0) (found 0)).ends generation e in cc)
   ends_so (suc (suc n)) generation e =

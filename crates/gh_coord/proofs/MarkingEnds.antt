@@ -1,21 +1,16 @@
 -- The second stop of a cycle and its check, step by step.
 use Rattle.std.proofs.Common.{◌≡◌, ℕ, zero, suc, ◌+◌, ◌<◌, ◌≤◌, ◌⊎◌, Bool, true, false, cond, ltb, refl, sym, ap, subst, ◌∙◌, arith, ltb-true, ltb-false}
 use Rattle.std.proofs.lemmas.Bool.{leb-true}
-use Rattle.gh_base.specs.declared.cell.Cell.{Cell}
-use Rattle.gh_base.specs.declared.cell.Cell.TheVariants as cell
+use Rattle.gh_coord.proofs.Vocabulary.{after_check, after_close, after_stop_again, All, asks, asks_at, at_stage, buffer_of, by_event, Cell, Check, Close, CloseStage, Coordinating, CoordStage, counted, Done, goes_at, Load, nat_tests, NotYet, phase_word, StopAgain, StopStage, Store}
 use Rattle.gh_base.specs.declared.pack.BufferWord.{BufferWord}
-use Rattle.gh_base.specs.declared.pack.Phase.TheVariants as phase
-use Rattle.gh_base.specs.Packing.{buffer_of}
-use Rattle.gh_coord.specs.declared.close.CloseStage.TheVariants as c
-use Rattle.gh_coord.specs.declared.stop.StopStage.TheVariants as p
-use Rattle.gh_coord.specs.declared.watch.WatchStage.TheVariants as w
-use Rattle.gh_coord.specs.Events.{by_event}
+use Rattle.gh_base.specs.declared.pack.Phase.{Phase}
 use Rattle.gh_coord.specs.MarkingEnds.{EndsWithNothingLeft, Finds, HasNothingLeft, LeavesMarks, NothingIsLeft, state}
 use Rattle.gh_coord.specs.Closing as close
 use Rattle.gh_coord.specs.Stopping as stop
 use Rattle.gh_coord.specs.Watching as watch
 use Rattle.gh_coord.proofs.Stepping.{Run, same_ask}
-use Rattle.gh_coord.proofs.Vocabulary.{after_check, after_close, after_stop_again, All, asks, asks_at, at_stage, Check, Close, CloseStage, Coordinating, CoordStage, counted, Done, goes_at, GONE, Load, nat_tests, NotYet, phase_word, StopAgain, StopStage, Store, WatchStage}
+use Rattle.gh_coord.specs.Vocabulary.{GONE}
+use Rattle.gh_coord.specs.declared.watch.WatchStage.{WatchStage}
 
 -- what the tests of the listing say of the words
 acked : (stops v : ℕ) → stop.is_acknowledged stops v ≡ true → (v ≡ stops) ⊎ (v ≡ GONE)
@@ -41,9 +36,9 @@ module _ (run : Run) where
   record Stopped (stops n actors : ℕ) : Type 0 where
     first : ℕ
     is_before : first < n
-    stores : asks run.layout (now first) ≡ Store cell.Phase (phase_word (record { stops = stops; phase = phase.Stop }))
+    stores : asks run.layout (now first) ≡ Store Cell.Phase (phase_word (record { stops = stops; phase = Phase.Stop }))
     leaves : (m : ℕ) → first < m → m < n → LeavesMarks (asks run.layout (now m))
-    each : (i : ℕ) → i < actors → Found first n (cell.Ack i) (IsAcked stops)
+    each : (i : ℕ) → i < actors → Found first n (Cell.Ack i) (IsAcked stops)
 
   -- and the first so many words that are watched were found as wanted
   record Looked (stops begun n words : ℕ) : Type 0 where
@@ -51,19 +46,19 @@ module _ (run : Run) where
     last : ℕ
     is_before : first < n
     is_by : last ≤ n
-    stores : asks run.layout (now first) ≡ Store cell.Phase (phase_word (record { stops = stops; phase = phase.Stop }))
+    stores : asks run.layout (now first) ≡ Store Cell.Phase (phase_word (record { stops = stops; phase = Phase.Stop }))
     leaves : (m : ℕ) → first < m → m < n → LeavesMarks (asks run.layout (now m))
-    acknowledged : (i : ℕ) → i < stop.acks_of run.layout → Found first last (cell.Ack i) (IsAcked stops)
+    acknowledged : (i : ℕ) → i < stop.acks_of run.layout → Found first last (Cell.Ack i) (IsAcked stops)
     each : (i : ℕ) → i < words → Found last n (watch.cell_at run.layout i) (IsWanted begun (watch.cell_at run.layout i))
 
   abbrev StopKnows : (stops n : ℕ) → StopStage → Type 0
-  StopKnows stops n p.StorePhase = Unit {0}
-  StopKnows stops n (p.Await i) = Stopped stops n i
-  StopKnows stops n p.Ended = ⊥
+  StopKnows stops n StopStage.StorePhase = Unit {0}
+  StopKnows stops n (StopStage.Await i) = Stopped stops n i
+  StopKnows stops n StopStage.Ended = ⊥
 
   abbrev CheckKnows : (stops begun n : ℕ) → WatchStage → Type 0
-  CheckKnows stops begun n (w.Look i) = (i < watch.words_of run.layout) × Looked stops begun n i
-  CheckKnows stops begun n (w.Ended watched) = ⊥
+  CheckKnows stops begun n (WatchStage.Look i) = (i < watch.words_of run.layout) × Looked stops begun n i
+  CheckKnows stops begun n (WatchStage.Ended watched) = ⊥
 
   record StopIs (stops n : ℕ) (st : stop.Stopping) : Type 0 where
     stops_is : st.stops ≡ stops
@@ -74,8 +69,8 @@ module _ (run : Run) where
     knows : CheckKnows stops begun n x.stage
 
   abbrev CloseKnows : (stops begun n : ℕ) → CloseStage → Type 0
-  CloseKnows stops begun n c.StorePhase = Unit {0}
-  CloseKnows stops begun n c.Ended = ⊥
+  CloseKnows stops begun n CloseStage.StorePhase = Unit {0}
+  CloseKnows stops begun n CloseStage.Ended = ⊥
   CloseKnows stops begun n _ = Looked stops begun n (watch.words_of run.layout)
 
   abbrev Knows : (stops begun n : ℕ) → CoordStage → Type 0
@@ -100,9 +95,9 @@ module _ (run : Run) where
 
   module _ (stops n : ℕ) where
     waits : (i : ℕ) → Stopped stops n i → LeavesMarks (asks run.layout (now n)) → Stopped stops (suc n) i
-    waits i k one = let before : k.first < n = k.is_before in record { first = k.first; is_before = omega arith; stores = k.stores; leaves = leaves_on k.first n k.leaves one; each = λ j lt. later k.first n (cell.Ack j) (IsAcked stops) (k.each j lt) }
+    waits i k one = let before : k.first < n = k.is_before in record { first = k.first; is_before = omega arith; stores = k.stores; leaves = leaves_on k.first n k.leaves one; each = λ j lt. later k.first n (Cell.Ack j) (IsAcked stops) (k.each j lt) }
 
-    finds_ack : (i : ℕ) → Stopped stops n i → asks run.layout (now n) ≡ Load (cell.Ack i) → stop.is_acknowledged stops (run.found n) ≡ true → Stopped stops (suc n) (i + 1)
+    finds_ack : (i : ℕ) → Stopped stops n i → asks run.layout (now n) ≡ Load (Cell.Ack i) → stop.is_acknowledged stops (run.found n) ≡ true → Stopped stops (suc n) (i + 1)
     unfolding waits
     finds_ack i k loads is =
         let before : k.first < n = k.is_before in
@@ -112,7 +107,7 @@ module _ (run : Run) where
           is_before = omega arith;
           stores = k.stores;
           leaves = on.leaves;
-          each = one_more (λ j. Found k.first (suc n) (cell.Ack j) (IsAcked stops)) i on.each (record { by = n; is_behind = omega arith; is_before = omega arith; loads = loads; is_so = acked stops (run.found n) is });
+          each = one_more (λ j. Found k.first (suc n) (Cell.Ack j) (IsAcked stops)) i on.each (record { by = n; is_behind = omega arith; is_before = omega arith; loads = loads; is_so = acked stops (run.found n) is });
         }
 
   module _ (stops begun n : ℕ) where
@@ -157,22 +152,22 @@ module _ (run : Run) where
       abbrev stopped : StopStage → Coordinating
       stopped stage = after_stop_again (at_stage s (StopAgain (record st { stage = stage }))) (stop.given_at stage)
 
-      awaits : (i : ℕ) → Stopped s.stops (suc n) i → Has (suc n) (stopped (p.Await i))
+      awaits : (i : ℕ) → Stopped s.stops (suc n) i → Has (suc n) (stopped (StopStage.Await i))
       awaits i k = record { stops_is = numbered; knows = k }
 
-      checks : (i : ℕ) → stop.acks_of run.layout ≤ i → Stopped s.stops (suc n) i → Has (suc n) (stopped p.Ended)
+      checks : (i : ℕ) → stop.acks_of run.layout ≤ i → Stopped s.stops (suc n) i → Has (suc n) (stopped StopStage.Ended)
       checks i most k = record {
         cycle_is = refl;
         knows = (omega arith, record { first = k.first; last = suc n; is_before = k.is_before; is_by = omega arith; stores = k.stores; leaves = k.leaves; acknowledged = λ j lt. k.each j (omega arith); each = λ j lt. absurd (omega arith) });
       }
 
-      await_step : (i v : ℕ) → v ≡ run.found n → asks run.layout (now n) ≡ Load (cell.Ack i) → Stopped s.stops n i → (is more : Bool) → stop.is_acknowledged st.stops v ≡ is → ltb (i + 1) (stop.acks_of run.layout) ≡ more →
-          Has (suc n) (stopped (cond is (cond more (p.Await (i + 1)) p.Ended) (p.Await i)))
+      await_step : (i v : ℕ) → v ≡ run.found n → asks run.layout (now n) ≡ Load (Cell.Ack i) → Stopped s.stops n i → (is more : Bool) → stop.is_acknowledged st.stops v ≡ is → ltb (i + 1) (stop.acks_of run.layout) ≡ more →
+          Has (suc n) (stopped (cond is (cond more (StopStage.Await (i + 1)) StopStage.Ended) (StopStage.Await i)))
       await_step i v told loads k is more e f = by is more e f where
         more_are : stop.is_acknowledged st.stops v ≡ true → Stopped s.stops (suc n) (i + 1)
         more_are a = finds_ack s.stops n i k loads (ap (λ (x : ℕ). stop.is_acknowledged x (run.found n)) (sym numbered) ∙ ap (λ (x : ℕ). stop.is_acknowledged st.stops x) (sym told) ∙ a)
 
-        by : (is more : Bool) → stop.is_acknowledged st.stops v ≡ is → ltb (i + 1) (stop.acks_of run.layout) ≡ more → Has (suc n) (stopped (cond is (cond more (p.Await (i + 1)) p.Ended) (p.Await i)))
+        by : (is more : Bool) → stop.is_acknowledged st.stops v ≡ is → ltb (i + 1) (stop.acks_of run.layout) ≡ more → Has (suc n) (stopped (cond is (cond more (StopStage.Await (i + 1)) StopStage.Ended) (StopStage.Await i)))
         by true true e f = awaits (i + 1) (more_are e)
         by true false e f = checks (i + 1) (ltb-false _ _ f) (more_are e)
         by false more e f = awaits i (waits s.stops n i k (subst LeavesMarks (sym loads) tt))
@@ -187,14 +182,14 @@ module _ (run : Run) where
       checked stage = after_check (at_stage s (Check (record x { stage = stage }))) (watch.given_at stage)
 
       look_step : (i v : ℕ) → v ≡ run.found n → asks run.layout (now n) ≡ Load (watch.cell_at run.layout i) → Looked s.stops s.begun n i → i < watch.words_of run.layout → (is more : Bool) → watch.is_wanted run.layout x.cycle (watch.cell_at run.layout i) v ≡ is → ltb (i + 1) (watch.words_of run.layout) ≡ more →
-          Has (suc n) (checked (cond is (cond more (w.Look (i + 1)) (w.Ended All)) (w.Ended NotYet)))
+          Has (suc n) (checked (cond is (cond more (WatchStage.Look (i + 1)) (WatchStage.Ended All)) (WatchStage.Ended NotYet)))
       look_step i v told loads k within is more e f = by is more e f where
         finds : watch.is_wanted run.layout x.cycle (watch.cell_at run.layout i) v ≡ true → Looked s.stops s.begun (suc n) (i + 1)
         finds a =
             finds_word s.stops s.begun n i k loads
             (ap (λ (y : ℕ). watch.is_wanted run.layout y (watch.cell_at run.layout i) (run.found n)) (sym numbered) ∙ ap (λ (y : ℕ). watch.is_wanted run.layout x.cycle (watch.cell_at run.layout i) y) (sym told) ∙ a)
 
-        by : (is more : Bool) → watch.is_wanted run.layout x.cycle (watch.cell_at run.layout i) v ≡ is → ltb (i + 1) (watch.words_of run.layout) ≡ more → Has (suc n) (checked (cond is (cond more (w.Look (i + 1)) (w.Ended All)) (w.Ended NotYet)))
+        by : (is more : Bool) → watch.is_wanted run.layout x.cycle (watch.cell_at run.layout i) v ≡ is → ltb (i + 1) (watch.words_of run.layout) ≡ more → Has (suc n) (checked (cond is (cond more (WatchStage.Look (i + 1)) (WatchStage.Ended All)) (WatchStage.Ended NotYet)))
         by true true e f = record { cycle_is = numbered; knows = (ltb-true _ _ f, finds e) }
         by true false e f =
             let last : watch.words_of run.layout ≤ i + 1 = ltb-false _ _ f in
@@ -230,10 +225,10 @@ module _ (run : Run) where
     abbrev Saw : Cell → Type 0
     Saw at = Found k.last n at (IsWanted begun at)
 
-    stack_at : (i g : ℕ) → i ≡ g + 1 → g < run.layout.goroutines → watch.cell_at run.layout i ≡ cell.Scanned g
+    stack_at : (i g : ℕ) → i ≡ g + 1 → g < run.layout.goroutines → watch.cell_at run.layout i ≡ Cell.Scanned g
     stack_at i g is lt = grind (arith, nat_tests)
 
-    buffer_at : (i b : ℕ) → i ≡ run.layout.goroutines + b + 1 → watch.cell_at run.layout i ≡ cell.Buffer b
+    buffer_at : (i b : ℕ) → i ≡ run.layout.goroutines + b + 1 → watch.cell_at run.layout i ≡ Cell.Buffer b
     buffer_at i b is = grind (arith, nat_tests)
 
     is_clean : NothingIsLeft run.layout run.seat run.gogc run.minheap run.room run.found n
@@ -243,9 +238,9 @@ module _ (run : Run) where
       is_before = k.is_before;
       stops = k.stores;
       acknowledged = k.acknowledged;
-      globals = so k.last n cell.Gcur (IsWanted begun cell.Gcur) (λ v. run.layout.globals ≤ v) (λ v e. leb-true _ _ e) (k.each 0 (omega arith));
-      stacks = λ g lt. so k.last n (cell.Scanned g) (IsWanted begun (cell.Scanned g)) (λ v. begun ≤ v) (λ v e. leb-true _ _ e) (subst Saw (stack_at (g + 1) g refl lt) (k.each (g + 1) (omega arith)));
-      buffers = λ i lt. so k.last n (cell.Buffer i) (IsWanted begun (cell.Buffer i)) (λ v. HasNothingLeft (buffer_of v)) (λ v e. left (buffer_of v) e) (subst Saw (buffer_at (run.layout.goroutines + i + 1) i refl) (k.each (run.layout.goroutines + i + 1) (omega arith)));
+      globals = so k.last n Cell.Gcur (IsWanted begun Cell.Gcur) (λ v. run.layout.globals ≤ v) (λ v e. leb-true _ _ e) (k.each 0 (omega arith));
+      stacks = λ g lt. so k.last n (Cell.Scanned g) (IsWanted begun (Cell.Scanned g)) (λ v. begun ≤ v) (λ v e. leb-true _ _ e) (subst Saw (stack_at (g + 1) g refl lt) (k.each (g + 1) (omega arith)));
+      buffers = λ i lt. so k.last n (Cell.Buffer i) (IsWanted begun (Cell.Buffer i)) (λ v. HasNothingLeft (buffer_of v)) (λ v e. left (buffer_of v) e) (subst Saw (buffer_at (run.layout.goroutines + i + 1) i refl) (k.each (run.layout.goroutines + i + 1) (omega arith)));
       leaves = k.leaves;
     }
 
@@ -253,7 +248,7 @@ module _ (run : Run) (n g : ℕ) (s : Coordinating) where
   abbrev Checked : Type 0
   Checked = Looked run s.stops s.begun n (watch.words_of run.layout)
 
-  is_checked : (stage : CoordStage) → Knows run s.stops s.begun n stage → asks_at run.layout s stage ≡ Store cell.Gen g → Checked
+  is_checked : (stage : CoordStage) → Knows run s.stops s.begun n stage → asks_at run.layout s stage ≡ Store Cell.Gen g → Checked
   is_checked stage k e = grind arith
 
 pub marking_ends_clean : EndsWithNothingLeft

@@ -1,21 +1,14 @@
 -- The coordinator is a routine, and so is each part of it: by the stages.
-use Rattle.std.proofs.Common.{◌≡◌, ℕ, ◌^◌, ◌<◌, Option, Some, None, refl, ◌∙◌, ap, arith}
-use Rattle.std.specs.Prelude.{is_none}
+use Rattle.std.proofs.Common.{◌≡◌, ℕ, ◌^◌, ◌<◌, Option, Some, None, refl, ◌∙◌, ap, arith, is_none}
+use Rattle.gh_coord.proofs.Vocabulary.{asks_at, by_event, Coordinating, CoordStage, counted, FitsPage, goes, goes_at, Layout, Lost, nat_tests, PackedWordsAreReadBack, page_of, PageWord, PartsAreRoutines, SoundCoordinating, SoundStage, SweepAllStage, SweepEnd, Swept, TheCoordinatorIsARoutine, Writes, writes}
 use Rattle.gh_base.specs.Cells.{InRange}
-use Rattle.gh_base.specs.Footprints.{Writes}
 use Rattle.gh_base.specs.Machines.{IsRoutine, Runs}
-use Rattle.gh_base.specs.Packing.{FitsPage, PackedWordsAreReadBack, page_of}
 use Rattle.gh_base.specs.Steps.{cell_of}
-use Rattle.gh_coord.specs.declared.sweep_all.SweepAllStage.TheVariants as a
 use Rattle.gh_coord.specs.Blind.{blind}
-use Rattle.gh_coord.specs.Events.{by_event}
-use Rattle.gh_coord.specs.PartsRoutines.{PartsAreRoutines, TheCoordinatorIsARoutine}
-use Rattle.gh_coord.specs.Sound.{SoundCoordinating, SoundStage, writes}
 use Rattle.gh_coord.specs.Stopping as stop
 use Rattle.gh_coord.specs.SweepingAll as all
-use Rattle.gh_coord.specs.Vocabulary.{Lost, PageWord, Swept, SweepEnd}
 use Rattle.gh_coord.specs.Watching as watch
-use Rattle.gh_coord.proofs.Vocabulary.{asks_at, Coordinating, CoordStage, counted, goes, goes_at, Layout, nat_tests, SweepAllStage, SweepStage}
+use Rattle.gh_sweep.specs.declared.sweep.SweepStage.{SweepStage}
 use Rattle.gh_sweep.specs.Listing as sweep
 use Rattle.gh_sweep.specs.Sound as sweeps
 
@@ -30,7 +23,7 @@ module _ (l : Layout) (s : all.SweepingAll) (generation : s.generation < 2 ^ 34)
   sound_load : (page : ℕ) (word : PageWord) → page < l.pages → FitsPage word → all.Sound l (all.after_load l s page word)
   sound_load page word low fits = grind (arith, nat_tests, sound_behind)
 
-  sound_sweep : (page : ℕ) (sw : sweep.Sweeping) (out : Option SweepEnd) → page < l.pages → sw.page ≡ page → sweeps.Sound l sw → sweep.given sw ≡ out → all.Sound l (all.after_sweep l (all.at_stage s (a.Sweep page sw)) page out)
+  sound_sweep : (page : ℕ) (sw : sweep.Sweeping) (out : Option SweepEnd) → page < l.pages → sw.page ≡ page → sweeps.Sound l sw → sweep.given sw ≡ out → all.Sound l (all.after_sweep l (all.at_stage s (SweepAllStage.Sweep page sw)) page out)
   sound_sweep page sw None low at sound e = record { generation = generation; page = (low, at); sweep = record { sound = sound; busy = ap is_none e } }
   sound_sweep page sw (Some Lost) low at sound e = record { generation = generation; page = low; sweep = tt }
   sound_sweep page sw (Some (Swept span)) low at sound e = sound_behind page
@@ -40,10 +33,10 @@ module _ (l : Layout) (s : all.SweepingAll) (generation : s.generation < 2 ^ 34)
 
   module _ (words : PackedWordsAreReadBack) (is : IsRoutine l (sweep.listing l)) (found : ℕ) (fits : found < 2 ^ 64) where
     sound_at : (stage : SweepAllStage) → all.IsAtPage l stage → all.RunsSweep l stage → all.Sound l (all.goes_at l s stage found)
-    sound_at (a.LoadPage page) at runs = sound_load page (page_of found) at (words.page_reads found fits)
-    sound_at (a.Sweep page sw) at runs = sound_sweep page (sweep.goes sw found) (sweep.gives sw found) at.0 (page_stays sw sw.stage found ∙ at.1) (is.keeps sw found fits runs.sound runs.busy) refl
-    sound_at (a.Await page) at runs = sound_await page (page_of found) at
-    sound_at a.Ended at runs = record { generation = generation; page = tt; sweep = tt }
+    sound_at (SweepAllStage.LoadPage page) at runs = sound_load page (page_of found) at (words.page_reads found fits)
+    sound_at (SweepAllStage.Sweep page sw) at runs = sound_sweep page (sweep.goes sw found) (sweep.gives sw found) at.0 (page_stays sw sw.stage found ∙ at.1) (is.keeps sw found fits runs.sound runs.busy) refl
+    sound_at (SweepAllStage.Await page) at runs = sound_await page (page_of found) at
+    sound_at SweepAllStage.Ended at runs = record { generation = generation; page = tt; sweep = tt }
 
 pub parts_are_routines : PackedWordsAreReadBack → ((l : Layout) → IsRoutine l (sweep.listing l)) → (l : Layout) → PartsAreRoutines l
 parts_are_routines words sweeps_are l = record {

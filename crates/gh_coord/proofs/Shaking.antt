@@ -1,22 +1,16 @@
 -- Each step of the coordinator is one of the handshake of a stop: by its stages.
 use Rattle.std.proofs.Common.{◌≡◌, ℕ, ◌+◌, ◌^◌, ◌<◌, Bool, true, false, cond, ltb, refl, sym, ap, subst, ◌∙◌, arith, Option, Some, None}
-use Rattle.gh_base.specs.declared.cell.Cell.TheVariants as cell
-use Rattle.gh_phase.specs.declared.view.RunPhase.TheVariants as run
-use Rattle.gh_phase.specs.Handshake.{goes, next_stop}
-use Rattle.gh_coord.specs.declared.close.CloseStage.TheVariants as close_stage
-use Rattle.gh_coord.specs.declared.open.OpenStage.TheVariants as open_stage
-use Rattle.gh_coord.specs.declared.stop.StopStage.TheVariants as stop_stage
+use Rattle.gh_coord.proofs.Vocabulary.{after_ack, after_check, after_count, after_stop, after_stop_again, after_sweep, after_want, after_watch, All, asks, asks_at, at_stage, begins, by_event, Calm, Cell, Check, Close, CloseStage, Coordinating, CoordStage, Count, counted, cycle_before, Done, ends, FitsNumbers, generation_before, goes_at, is_busy, IsAcked, IsQuietInHandshake, Layout, lead_at, lead_of, LeadGoes, LeadsHandshake, LoadAck, LoadWant, Looks, MarkOn, next_cycle, next_generation, next_stop, Open, PartsAreRoutines, quiet, RunPhase, sees, Sound, SoundAt, Stop, stop_before, stop_word, StopAgain, Stopped, stops, StopsFor, StopStage, Store, Sweep, Tell, Watch}
+use Rattle.gh_phase.specs.Handshake.{goes}
 use Rattle.gh_coord.specs.Closing as close
 use Rattle.gh_coord.specs.Counting as count
-use Rattle.gh_coord.specs.Events.{by_event}
-use Rattle.gh_coord.specs.Handshake.{StopsFor}
 use Rattle.gh_coord.specs.Opening as opens_by
-use Rattle.gh_coord.specs.PartsRoutines.{PartsAreRoutines}
 use Rattle.gh_coord.specs.Stopping as stop
 use Rattle.gh_coord.specs.SweepingAll as all
 use Rattle.gh_coord.specs.Telling as tell
 use Rattle.gh_coord.specs.Watching as watch
-use Rattle.gh_coord.proofs.Vocabulary.{acks_of, after_ack, after_check, after_count, after_stop, after_stop_again, after_sweep, after_want, after_watch, All, asks, asks_at, at_stage, begins, Calm, Check, Close, CloseStage, Coordinating, CoordStage, Count, Counted, counted, cycle_before, Done, ends, FitsNumbers, generation_before, goes_at, is_acknowledged, is_busy, IsAcked, IsQuietInHandshake, Layout, lead_at, lead_of, LeadGoes, LeadsHandshake, LoadAck, LoadWant, Looks, MarkOn, next_cycle, next_generation, Open, OpenStage, quiet, sees, Sound, SoundAt, Stop, stop_before, stop_word, StopAgain, Stopped, stops, StopStage, Store, Sweep, Tell, TellStage, Watch, Watched}
+use Rattle.gh_coord.specs.Stopping.{acks_of, is_acknowledged}
+use Rattle.gh_coord.specs.Vocabulary.{Counted, OpenStage, TellStage, Watched}
 use Rattle.gh_coord.proofs.LastCycle.{finds_gone, finishes_at, marks_at, stops_go_on}
 use Rattle.gh_coord.proofs.QuietParts.{quiet_by}
 use Rattle.gh_coord.proofs.Stepping.{same_ask}
@@ -72,49 +66,49 @@ module _ (l : Layout) (found : ℕ) (s : Coordinating) (f : FitsNumbers s.stops 
 
   -- what a load of this acknowledgement leads to
   abbrev seeing : (ack : ℕ) → (there more : Bool) → stop.Stopping
-  seeing ack there more = stopping (cond there (cond more (stop_stage.Await (ack + 1)) stop_stage.Ended) (stop_stage.Await ack))
+  seeing ack there more = stopping (cond there (cond more (StopStage.Await (ack + 1)) StopStage.Ended) (StopStage.Await ack))
 
   first_stop : (stage : StopStage) → stop.is_busy stage ≡ true → Goes l found s (Stop (stopping stage)) (goes_at l s (Stop (stopping stage)) found)
-  first_stop stop_stage.StorePhase busy =
+  first_stop StopStage.StorePhase busy =
       let is : next_stop (stop_before s.stops) ≡ s.stops = stop_ahead s.stops f.stops_fit in
-      ((f, refl), stops run.Off (λ e. cc) refl (ap (λ (n : ℕ). Store cell.Phase (stop_word n)) (sym is)) (ap (λ (n : ℕ). record { stops = n; begun = s.begun; generation = s.generation; post = Looks run.Off 0 }) (sym is)))
-  first_stop (stop_stage.Await ack) busy = go (is_acknowledged s.stops found) (ltb (ack + 1) (acks_of l)) refl refl where
-    go : (there more : Bool) → is_acknowledged s.stops found ≡ there → ltb (ack + 1) (acks_of l) ≡ more → Goes l found s (Stop (stopping (stop_stage.Await ack))) (after_stop l (at_stage s (Stop (seeing ack there more))) (stop.given (seeing ack there more)))
-    go true true e m = ((f, refl), sees run.Off ack refl refl (acked s.stops found e) (rw m refl))
-    go true false e m = ((raised_cycle s.stops s.begun s.generation f, (refl, refl)), sees run.Off ack refl refl (acked s.stops found e) (rw (m, cycle_behind s.begun f.begun_fits) refl))
+      ((f, refl), stops RunPhase.Off (λ e. cc) refl (ap (λ (n : ℕ). Store Cell.Phase (stop_word n)) (sym is)) (ap (λ (n : ℕ). record { stops = n; begun = s.begun; generation = s.generation; post = Looks RunPhase.Off 0 }) (sym is)))
+  first_stop (StopStage.Await ack) busy = go (is_acknowledged s.stops found) (ltb (ack + 1) (acks_of l)) refl refl where
+    go : (there more : Bool) → is_acknowledged s.stops found ≡ there → ltb (ack + 1) (acks_of l) ≡ more → Goes l found s (Stop (stopping (StopStage.Await ack))) (after_stop l (at_stage s (Stop (seeing ack there more))) (stop.given (seeing ack there more)))
+    go true true e m = ((f, refl), sees RunPhase.Off ack refl refl (acked s.stops found e) (rw m refl))
+    go true false e m = ((raised_cycle s.stops s.begun s.generation f, (refl, refl)), sees RunPhase.Off ack refl refl (acked s.stops found e) (rw (m, cycle_behind s.begun f.begun_fits) refl))
     go false more e m = ((f, refl), quiet tt refl)
-  first_stop stop_stage.Ended busy = absurd cc
+  first_stop StopStage.Ended busy = absurd cc
 
   second_stop : (stage : StopStage) → stop.is_busy stage ≡ true → Goes l found s (StopAgain (stopping stage)) (goes_at l s (StopAgain (stopping stage)) found)
-  second_stop stop_stage.StorePhase busy =
+  second_stop StopStage.StorePhase busy =
       let is : next_stop (stop_before s.stops) ≡ s.stops = stop_ahead s.stops f.stops_fit in
-      ((f, refl), stops run.Mark (λ e. cc) refl (ap (λ (n : ℕ). Store cell.Phase (stop_word n)) (sym is)) (ap (λ (n : ℕ). record { stops = n; begun = s.begun; generation = s.generation; post = Looks run.Mark 0 }) (sym is)))
-  second_stop (stop_stage.Await ack) busy = go (is_acknowledged s.stops found) (ltb (ack + 1) (acks_of l)) refl refl where
-    go : (there more : Bool) → is_acknowledged s.stops found ≡ there → ltb (ack + 1) (acks_of l) ≡ more → Goes l found s (StopAgain (stopping (stop_stage.Await ack))) (after_stop_again (at_stage s (StopAgain (seeing ack there more))) (stop.given (seeing ack there more)))
-    go true true e m = ((f, refl), sees run.Mark ack refl refl (acked s.stops found e) (rw m refl))
-    go true false e m = ((f, tt), sees run.Mark ack refl refl (acked s.stops found e) (rw m refl))
+      ((f, refl), stops RunPhase.Mark (λ e. cc) refl (ap (λ (n : ℕ). Store Cell.Phase (stop_word n)) (sym is)) (ap (λ (n : ℕ). record { stops = n; begun = s.begun; generation = s.generation; post = Looks RunPhase.Mark 0 }) (sym is)))
+  second_stop (StopStage.Await ack) busy = go (is_acknowledged s.stops found) (ltb (ack + 1) (acks_of l)) refl refl where
+    go : (there more : Bool) → is_acknowledged s.stops found ≡ there → ltb (ack + 1) (acks_of l) ≡ more → Goes l found s (StopAgain (stopping (StopStage.Await ack))) (after_stop_again (at_stage s (StopAgain (seeing ack there more))) (stop.given (seeing ack there more)))
+    go true true e m = ((f, refl), sees RunPhase.Mark ack refl refl (acked s.stops found e) (rw m refl))
+    go true false e m = ((f, tt), sees RunPhase.Mark ack refl refl (acked s.stops found e) (rw m refl))
     go false more e m = ((f, refl), quiet tt refl)
-  second_stop stop_stage.Ended busy = absurd cc
+  second_stop StopStage.Ended busy = absurd cc
 
   -- a cycle is opened
   abbrev open_at : opens_by.CycleOpening → OpenStage → opens_by.CycleOpening
   open_at o stage = record o { stops = s.stops; cycle = s.begun; stage = stage }
 
   opening : (o : opens_by.CycleOpening) (stage : OpenStage) → opens_by.is_busy stage ≡ true → Goes l found s (Open (open_at o stage)) (goes_at l s (Open (open_at o stage)) found)
-  opening o open_stage.StoreBegun busy =
+  opening o OpenStage.StoreBegun busy =
       let is : next_cycle (cycle_before s.begun) ≡ s.begun = cycle_ahead s.begun f.begun_fits in
-      ((f, (refl, refl)), begins run.Off refl (ap (λ (n : ℕ). Store cell.Begun n) (sym is)) (ap (λ (n : ℕ). record { stops = s.stops; begun = n; generation = s.generation; post = Stopped run.Off }) (sym is)))
-  opening o open_stage.StorePhase busy = ((f, tt), goes run.Off run.Mark (λ e. cc) refl refl refl)
-  opening o open_stage.Ended busy = absurd cc
+      ((f, (refl, refl)), begins RunPhase.Off refl (ap (λ (n : ℕ). Store Cell.Begun n) (sym is)) (ap (λ (n : ℕ). record { stops = s.stops; begun = n; generation = s.generation; post = Stopped RunPhase.Off }) (sym is)))
+  opening o OpenStage.StorePhase busy = ((f, tt), goes RunPhase.Off RunPhase.Mark (λ e. cc) refl refl refl)
+  opening o OpenStage.Ended busy = absurd cc
   opening o _ busy = ((f, (refl, refl)), quiet tt refl)
 
   -- the look and the check
   watching : (w v : watch.Watching) (out : Option Watched) → IsQuietInHandshake (watch.asks l w) → Goes l found s (Watch w) (after_watch (at_stage s (Watch v)) out)
-  watching w v (Some All) q = ((fits_raised, refl), quiet q (ap (λ (n : ℕ). record { stops = n; begun = s.begun; generation = s.generation; post = Calm run.Mark }) (stop_behind s.stops f.stops_fit)))
+  watching w v (Some All) q = ((fits_raised, refl), quiet q (ap (λ (n : ℕ). record { stops = n; begun = s.begun; generation = s.generation; post = Calm RunPhase.Mark }) (stop_behind s.stops f.stops_fit)))
   watching w v _ q = ((f, tt), quiet q refl)
 
   checking : (w v : watch.Watching) (out : Option Watched) → IsQuietInHandshake (watch.asks l w) → Goes l found s (Check w) (after_check (at_stage s (Check v)) out)
-  checking w v (Some All) q = ((raised_generation s.stops s.begun s.generation f, refl), quiet q (ap (λ (n : ℕ). record { stops = s.stops; begun = s.begun; generation = n; post = Stopped run.Mark }) (generation_behind s.generation f.generation_fits)))
+  checking w v (Some All) q = ((raised_generation s.stops s.begun s.generation f, refl), quiet q (ap (λ (n : ℕ). record { stops = s.stops; begun = s.begun; generation = n; post = Stopped RunPhase.Mark }) (generation_behind s.generation f.generation_fits)))
   checking w v _ q = ((f, tt), quiet q refl)
 
   -- marking is ended
@@ -122,11 +116,11 @@ module _ (l : Layout) (found : ℕ) (s : Coordinating) (f : FitsNumbers s.stops 
   close_at lapsed stage = record { lapsed = lapsed; generation = s.generation; stops = s.stops; stage = stage }
 
   closing : (lapsed : ℕ) (stage : CloseStage) → close.is_busy stage ≡ true → Goes l found s (Close (close_at lapsed stage)) (goes_at l s (Close (close_at lapsed stage)) found)
-  closing lapsed close_stage.StoreGen busy =
+  closing lapsed CloseStage.StoreGen busy =
       let is : next_generation (generation_before s.generation) ≡ s.generation = generation_ahead s.generation f.generation_fits in
-      ((f, refl), ends run.Mark refl (ap (λ (n : ℕ). Store cell.Gen n) (sym is)) (ap (λ (n : ℕ). record { stops = s.stops; begun = s.begun; generation = n; post = Stopped run.Mark }) (sym is)))
-  closing lapsed close_stage.StorePhase busy = ((f, refl), goes run.Mark run.Off (λ e. cc) refl refl refl)
-  closing lapsed close_stage.Ended busy = absurd cc
+      ((f, refl), ends RunPhase.Mark refl (ap (λ (n : ℕ). Store Cell.Gen n) (sym is)) (ap (λ (n : ℕ). record { stops = s.stops; begun = s.begun; generation = n; post = Stopped RunPhase.Mark }) (sym is)))
+  closing lapsed CloseStage.StorePhase busy = ((f, refl), goes RunPhase.Mark RunPhase.Off (λ e. cc) refl refl refl)
+  closing lapsed CloseStage.Ended busy = absurd cc
   closing lapsed _ busy = ((f, refl), quiet tt refl)
 
   -- the sweep, and what it has counted
@@ -157,7 +151,7 @@ module _ (l : Layout) (found : ℕ) (s : Coordinating) (is : PartsAreRoutines l)
   goes_so (Watch w) f e busy = watching l found s f w (watch.goes l w found) (watch.given (watch.goes l w found)) (quiet_by watch.writes _ (is.watch.writes w) refl refl refl refl)
   goes_so (StopAgain st) f e busy = subst (λ (x : stop.Stopping). Goes l found s (StopAgain x) (goes_at l s (StopAgain x) found)) (sym e) (second_stop l found s f st.stage busy)
   goes_so (Check w) f e busy = checking l found s f w (watch.goes l w found) (watch.given (watch.goes l w found)) (quiet_by watch.writes _ (is.watch.writes w) refl refl refl refl)
-  goes_so MarkOn f e busy = ((f, tt), goes run.Mark run.Mark (λ x. cc) refl refl refl)
+  goes_so MarkOn f e busy = ((f, tt), goes RunPhase.Mark RunPhase.Mark (λ x. cc) refl refl refl)
   goes_so (Close c) f e busy = subst (λ (x : close.Closing). Goes l found s (Close x) (goes_at l s (Close x) found)) (sym e) (closing l found s f c.lapsed c.stage busy)
   goes_so (Sweep w) f e busy = sweeping l found s f w (all.goes l w found) (all.given (all.goes l w found)) (sweep_number w ∙ e) (quiet_by all.writes _ (is.sweep.writes w) refl refl refl refl)
   goes_so (Count c) f e busy = counting l found s f c (count.goes c found) (count.given (count.goes c found)) (quiet_by count.writes _ (is.count.writes c) refl refl refl refl)
@@ -172,7 +166,7 @@ counted_sound s _ e = e
 -- why it stops the world
 module _ (l : Layout) (s m : Coordinating) (found : ℕ) where
   abbrev HasReason : Coordinating → Type 0
-  HasReason to = (stop : ℕ) → asks l to ≡ Store cell.Phase (stop_word stop) → StopsFor l found s to
+  HasReason to = (stop : ℕ) → asks l to ≡ Store Cell.Phase (stop_word stop) → StopsFor l found s to
 
   stops_so : (stage : CoordStage) → s.stage ≡ stage → m.stage ≡ stage → HasReason (goes_at l m stage found)
   stops_so stage is stays = by_event l m found HasReason stage (λ e may. grind arith)

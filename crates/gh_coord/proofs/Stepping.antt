@@ -1,7 +1,6 @@
 -- A run of the coordinator, and what is asked for where the steps that store the phase word are counted.
 use Rattle.std.proofs.Common.{◌≡◌, ℕ, refl}
-use Rattle.gh_coord.specs.Listing.{asks_at, Coordinating, counted}
-use Rattle.gh_coord.specs.Vocabulary.{CoordStage, Layout, LoadAck}
+use Rattle.gh_coord.proofs.Vocabulary.{asks_at, Coordinating, CoordStage, counted, Layout, LoadAck}
 
 -- a coordinator's layout, the numbers that it is opened with, and what each of its steps is told
 pub record Run : Type 0 where

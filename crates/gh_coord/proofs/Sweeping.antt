@@ -1,17 +1,11 @@
 -- The coordinator runs the steps of sweeps, and begins one where it finds the head of an unswept span.
 use Rattle.std.proofs.Common.{◌≡◌, ℕ, ◌+◌, ◌==◌, Bool, cond, Option, Some, None, refl, sym, ◌∙◌, arith}
-use Rattle.gh_base.specs.declared.pack.PageWord.{PageWord}
-use Rattle.gh_base.specs.declared.pack.PageWord.TheVariants.{Body, Free, Head}
-use Rattle.gh_base.specs.Packing.{page_of}
+use Rattle.gh_coord.proofs.Vocabulary.{after_sweep, asks_at, at_stage, Body, by_event, Coordinating, CoordStage, counted, Free, goes_at, Head, Layout, page_of, PageWord, PartsAreRoutines, SoundAt, Sweep, sweep_at, sweep_in, SweepAllStage}
 use Rattle.gh_sweep.specs.Listing as sweep
 use Rattle.gh_sweep.specs.Running.{BeginsSweep, on_from}
-use Rattle.gh_coord.specs.declared.sweep_all.SweepAllStage.TheVariants as all_stage
-use Rattle.gh_coord.specs.Events.{by_event}
-use Rattle.gh_coord.specs.PartsRoutines.{PartsAreRoutines}
 use Rattle.gh_coord.specs.Sweeping.{TheCoordinatorRunsSweeps}
 use Rattle.gh_coord.specs.SweepingAll as all
 use Rattle.gh_coord.proofs.SweptPages.{tells_once_swept}
-use Rattle.gh_coord.proofs.Vocabulary.{after_sweep, asks_at, at_stage, Coordinating, CoordStage, counted, goes_at, Layout, SoundAt, Sweep, SweepAllStage, sweep_at, sweep_in}
 
 -- The walk over all spans.
 behind_none : (pages page : ℕ) → all.sweep_at (all.behind_of pages page) ≡ None
@@ -24,14 +18,14 @@ module _ (l : Layout) (w : all.SweepingAll) (found : ℕ) (sw : sweep.Sweeping) 
   abbrev WalkBegins : SweepAllStage → Type 0
   WalkBegins p = BeginsSweep w.generation (all.asks_at l p) found sw
 
-  loads : (page : ℕ) (word : PageWord) → page_of found ≡ word → all.sweep_at (all.after_load l w page word).stage ≡ Some sw → WalkBegins (all_stage.LoadPage page)
+  loads : (page : ℕ) (word : PageWord) → page_of found ≡ word → all.sweep_at (all.after_load l w page word).stage ≡ Some sw → WalkBegins (SweepAllStage.LoadPage page)
   loads page (Head h) is some = by (h.number + 2 == w.generation) (h.number + 1 == w.generation) refl some where
-    by : (b c : Bool) → (h.number + 2 == w.generation) ≡ b → all.sweep_at (cond b (all_stage.Sweep page (sweep.opening page h)) (cond c (all_stage.Await page) (all.behind l page))) ≡ Some sw → WalkBegins (all_stage.LoadPage page)
+    by : (b c : Bool) → (h.number + 2 == w.generation) ≡ b → all.sweep_at (cond b (SweepAllStage.Sweep page (sweep.opening page h)) (cond c (SweepAllStage.Await page) (all.behind l page))) ≡ Some sw → WalkBegins (SweepAllStage.LoadPage page)
     by b c e some = grind arith
   loads page Free is some = absurd (let none = behind_none l.pages page in cc)
   loads page (Body b) is some = absurd (let none = behind_none l.pages page in cc)
 
-  awaits : (page : ℕ) (b : Bool) → all.sweep_at (cond b (all_stage.Await page) (all.behind l page)) ≡ None
+  awaits : (page : ℕ) (b : Bool) → all.sweep_at (cond b (SweepAllStage.Await page) (all.behind l page)) ≡ None
   awaits page b = grind arith
 
   walk_begins : (p : SweepAllStage) → all.sweep_at p ≡ None → all.sweep_at (all.goes_at l w p found).stage ≡ Some sw → WalkBegins p

@@ -1,23 +1,14 @@
 -- The walk over the pages, step by step: of each page behind it nothing is left to sweep.
 use Rattle.std.proofs.Common.{◌≡◌, ℕ, zero, suc, ◌+◌, ◌<◌, ◌≤◌, ◌==◌, Bool, true, false, cond, ltb, Option, Some, None, inl, inr, refl, sym, ap, subst, ◌∙◌, arith, ltb-true, ltb-false}
-use Rattle.gh_base.specs.declared.cell.Cell.TheVariants as cell
-use Rattle.gh_base.specs.declared.pack.PageWord.{PageWord}
-use Rattle.gh_base.specs.declared.pack.PageWord.TheVariants.{Body, Free, Head}
-use Rattle.gh_base.specs.Packing.{page_of}
-use Rattle.gh_sweep.specs.declared.sweep.SweepEnd.{SweepEnd}
-use Rattle.gh_sweep.specs.declared.sweep.SweepEnd.TheVariants.{Lost, Swept}
+use Rattle.gh_coord.proofs.Vocabulary.{after_sweep, Ask, asks, asks_at, at_stage, Body, by_event, Cell, Close, Coordinating, CoordStage, Count, counted, Done, Event, Free, goes_at, Head, Layout, led, Load, Lost, MayCome, nat_tests, page_of, PageWord, PartsAreRoutines, Store, Sweep, sweep_at, sweep_in, SweepAllStage, SweepEnd, Swept, Tell}
 use Rattle.gh_sweep.specs.Listing as sweep
-use Rattle.gh_coord.specs.declared.sweep_all.SweepAllStage.TheVariants as a
 use Rattle.gh_coord.specs.Counting as count
-use Rattle.gh_coord.specs.Events.{by_event, Event, led, MayCome}
-use Rattle.gh_coord.specs.PartsRoutines.{PartsAreRoutines}
 use Rattle.gh_coord.specs.SweepingAll as all
 use Rattle.gh_coord.specs.Telling as tell
 use Rattle.gh_coord.specs.SweptPages.{FindsBegun, FindsDone, HasPassed, HasSwept, IsNone, state, TellsOnceAllAreSwept}
 use Rattle.gh_coord.proofs.PartsRoutines.{page_stays}
 use Rattle.gh_coord.proofs.QuietParts.{never}
 use Rattle.gh_coord.proofs.Stepping.{Run, same_ask}
-use Rattle.gh_coord.proofs.Vocabulary.{after_sweep, Ask, asks, asks_at, at_stage, Close, Coordinating, CoordStage, Count, counted, Done, goes_at, Layout, Load, nat_tests, Store, Sweep, sweep_at, sweep_in, SweepAllStage, Tell}
 
 module _ (run : Run) where
   abbrev now : ℕ → Coordinating
@@ -25,7 +16,7 @@ module _ (run : Run) where
 
   -- the step stores no sweep generation
   abbrev StoresNone : Ask → Type 0
-  StoresNone step = (other : ℕ) → step ≡ Store cell.Gen other → ⊥
+  StoresNone step = (other : ℕ) → step ≡ Store Cell.Gen other → ⊥
 
   abbrev Passed : (generation n page : ℕ) → Type 0
   Passed generation n page = HasPassed run.layout run.seat run.gogc run.minheap run.room run.found n generation page
@@ -48,10 +39,10 @@ module _ (run : Run) where
     since : (m : ℕ) → first ≤ m → m < n → StoresNone (asks run.layout (now m))
 
   abbrev WalkKnows : (generation n : ℕ) → SweepAllStage → Type 0
-  WalkKnows generation n (a.LoadPage page) = Below generation n page
-  WalkKnows generation n (a.Sweep page sw) = (sw.page ≡ page) × Below generation n page
-  WalkKnows generation n (a.Await page) = Begun generation n page × Below generation n page
-  WalkKnows generation n a.Ended = ⊥
+  WalkKnows generation n (SweepAllStage.LoadPage page) = Below generation n page
+  WalkKnows generation n (SweepAllStage.Sweep page sw) = (sw.page ≡ page) × Below generation n page
+  WalkKnows generation n (SweepAllStage.Await page) = Begun generation n page × Below generation n page
+  WalkKnows generation n SweepAllStage.Ended = ⊥
 
   record WalkIs (generation n : ℕ) (x : all.SweepingAll) : Type 0 where
     generation_is : x.generation ≡ generation
@@ -116,17 +107,17 @@ module _ (run : Run) where
         most : Below s.generation (suc n) (page + 1)
         most = one_more s.generation n none page k one
 
-        by : (b : Bool) → ltb (page + 1) run.layout.pages ≡ b → Has (suc n) (walked (cond b (a.LoadPage (page + 1)) a.Ended))
+        by : (b : Bool) → ltb (page + 1) run.layout.pages ≡ b → Has (suc n) (walked (cond b (SweepAllStage.LoadPage (page + 1)) SweepAllStage.Ended))
         by true e = record { generation_is = numbered; knows = most }
         by false e =
             let last : run.layout.pages ≤ page + 1 = ltb-false _ _ e in
             λ i lt. most i (omega arith)
 
-      waits : (page : ℕ) → Begun s.generation (suc n) page → Below s.generation n page → Has (suc n) (walked (a.Await page))
+      waits : (page : ℕ) → Begun s.generation (suc n) page → Below s.generation n page → Has (suc n) (walked (SweepAllStage.Await page))
       waits page h k = record { generation_is = numbered; knows = (h, stay s.generation n none page k) }
 
       -- by the page's word
-      module _ (page : ℕ) (loads : asks run.layout (now n) ≡ Load (cell.Page page)) where
+      module _ (page : ℕ) (loads : asks run.layout (now n) ≡ Load (Cell.Page page)) where
         begun : (word : PageWord) → page_of (run.found n) ≡ word → IsNone 2 s.generation word → Begun s.generation (suc n) page
         begun word is so = grind arith
 
@@ -135,7 +126,7 @@ module _ (run : Run) where
 
         load_step : (word : PageWord) → page_of (run.found n) ≡ word → Below s.generation n page → Has (suc n) (walks_to (all.after_load run.layout x page word))
         load_step (Head h) is k = by (h.number + 2 == x.generation) (h.number + 1 == x.generation) refl refl where
-          by : (b d : Bool) → (h.number + 2 == x.generation) ≡ b → (h.number + 1 == x.generation) ≡ d → Has (suc n) (walked (cond b (a.Sweep page (sweep.opening page h)) (cond d (a.Await page) (all.behind_of run.layout.pages page))))
+          by : (b d : Bool) → (h.number + 2 == x.generation) ≡ b → (h.number + 1 == x.generation) ≡ d → Has (suc n) (walked (cond b (SweepAllStage.Sweep page (sweep.opening page h)) (cond d (SweepAllStage.Await page) (all.behind_of run.layout.pages page))))
           by true d e f = record { generation_is = numbered; knows = (refl, stay s.generation n none page k) }
           by false true e f = waits page (begun (Head h) is (λ i. grind (arith, nat_tests))) k
           by false false e f = behind page k (done (Head h) is (λ i. grind (arith, nat_tests)) (begun (Head h) is (λ i. grind (arith, nat_tests))))
@@ -144,7 +135,7 @@ module _ (run : Run) where
 
         await_step : (word : PageWord) → page_of (run.found n) ≡ word → Begun s.generation n page → Below s.generation n page → Has (suc n) (walks_to (all.after_await run.layout x page word))
         await_step (Head h) is was k = by (h.number + 1 == x.generation) refl where
-          by : (d : Bool) → (h.number + 1 == x.generation) ≡ d → Has (suc n) (walked (cond d (a.Await page) (all.behind_of run.layout.pages page)))
+          by : (d : Bool) → (h.number + 1 == x.generation) ≡ d → Has (suc n) (walked (cond d (SweepAllStage.Await page) (all.behind_of run.layout.pages page)))
           by true f = waits page (begun_on s.generation n none page was) k
           by false f = behind page k (done (Head h) is (λ i. grind (arith, nat_tests)) (begun_on s.generation n none page was))
         await_step Free is was k = behind page k (done Free is tt (begun_on s.generation n none page was))
@@ -152,7 +143,7 @@ module _ (run : Run) where
 
       -- by what its own sweep gives
       swept_step : (page : ℕ) (sw : sweep.Sweeping) (out : Option SweepEnd) → sweep_in (now n) ≡ Some sw → sw.page ≡ page → sweep.gives sw (run.found n) ≡ out → Below s.generation n page →
-          Has (suc n) (walks_to (all.after_sweep run.layout (all.at_stage x (a.Sweep page (sweep.goes sw (run.found n)))) page out))
+          Has (suc n) (walks_to (all.after_sweep run.layout (all.at_stage x (SweepAllStage.Sweep page (sweep.goes sw (run.found n)))) page out))
       swept_step page sw None runs at is k = record { generation_is = numbered; knows = (page_stays sw sw.stage (run.found n) ∙ at, stay s.generation n none page k) }
       swept_step page sw (Some Lost) runs at is k = waits page (begun_here s.generation n none page (inr (record { sw = sw; runs = runs; page_is = at; ends = is }))) k
       swept_step page sw (Some (Swept span)) runs at is k = behind page k (swept_here s.generation n none page (span, record { sw = sw; runs = runs; page_is = at; ends = is }))
@@ -177,7 +168,7 @@ module _ (run : Run) where
       step_at n (counted s) (parts run.layout) s.stage refl refl (sym (same_ask run.layout s s.stage)) (has parts n)
 
 module _ (run : Run) (n v : ℕ) (s : Coordinating) where
-  tells_at : (stage : CoordStage) → Knows run s.generation n stage → asks_at run.layout s stage ≡ Store cell.Swept v → Below run s.generation n run.layout.pages
+  tells_at : (stage : CoordStage) → Knows run s.generation n stage → asks_at run.layout s stage ≡ Store Cell.Swept v → Below run s.generation n run.layout.pages
   tells_at stage k e = grind arith
 
 pub tells_once_swept : ((l : Layout) → PartsAreRoutines l) → TellsOnceAllAreSwept

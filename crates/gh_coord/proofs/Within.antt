@@ -1,12 +1,11 @@
 -- Whatever the coordinator is told, each of its steps is on a word that there is: by what a step comes to.
 use Rattle.std.proofs.Common.{ℕ, ◌^◌, ◌<◌, arith}
-use Rattle.gh_coord.specs.Events.{by_event}
+use Rattle.gh_coord.proofs.Vocabulary.{by_event, Coordinating, CoordStage, goes_at, Layout, nat_tests}
 use Rattle.gh_coord.specs.Stopping as stop
 use Rattle.gh_coord.specs.SweepingAll as all
 use Rattle.gh_coord.specs.Watching as watch
 use Rattle.gh_coord.specs.Within.{StandsAt, StandsWithin, TheCoordinatorStaysWithin}
 use Rattle.gh_coord.proofs.PartsRoutines.{page_stays}
-use Rattle.gh_coord.proofs.Vocabulary.{Coordinating, CoordStage, goes_at, Layout, nat_tests}
 
 module _ (l : Layout) (found : ℕ) where
   stop_on : (s : stop.Stopping) → stop.Sound l s → stop.Sound l (stop.goes l s found)

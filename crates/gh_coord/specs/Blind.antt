@@ -1,9 +1,8 @@
 -- The stores of the coordinator and of its parts are blind.
-use Rattle.std.specs.Prelude.{◌≡◌, ℕ, true}
-use Rattle.std.proofs.Common.{arith}
+use Rattle.std.proofs.Common.{arith, ◌≡◌, ℕ, true}
+use Rattle.gh_coord.specs.Vocabulary.{CoordStage, Layout}
 use Rattle.gh_base.specs.Blind.{is_store, StoresAreBlind}
 use Rattle.gh_coord.specs.Listing.{asks, asks_at, Coordinating, counted, goes, goes_at}
-use Rattle.gh_coord.specs.Vocabulary.{CoordStage, Layout}
 
 -- the coordinator that asks, and the same once it has counted the step
 blind_at : (l : Layout) (s m : Coordinating) (stage : CoordStage) (found other : ℕ) → is_store (asks_at l s stage) ≡ true → goes_at l m stage found ≡ goes_at l m stage other

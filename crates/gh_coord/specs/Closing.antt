@@ -1,17 +1,8 @@
 -- Marking is ended: what is asked for at each stage, where that leads, and what it gives.
 use Rattle.std.specs.Prelude.{ℕ, ◌+◌, ◌%◌, ◌^◌, ◌<◌, Bool, true, false, Option, Some, None}
-use Rattle.gh_base.specs.declared.cell.Cell.TheVariants as cell
-use Rattle.gh_base.specs.declared.cell.Ask.{Ask}
-use Rattle.gh_base.specs.declared.cell.Ask.TheVariants.{Load, Store}
-use Rattle.gh_base.specs.declared.layout.Layout.{Layout}
-use Rattle.gh_base.specs.declared.pack.Phase.TheVariants.{Off}
-use Rattle.gh_base.specs.declared.pack.PhaseWord.{PhaseWord}
-use Rattle.gh_base.specs.Footprints.{Footprint}
+use Rattle.gh_coord.specs.Vocabulary.{Ask, Cell, CloseStage, Footprint, Layout, Listing, Load, Off, phase_word, PhaseWord, Store}
 use Rattle.gh_base.specs.Footprints as row
-use Rattle.gh_base.specs.Machines.{Listing}
-use Rattle.gh_base.specs.Packing.{phase_word}
 use Rattle.gh_coord.specs.declared.close.Close.{Close}
-use Rattle.gh_coord.specs.declared.close.CloseStage.{CloseStage}
 use Rattle.gh_coord.specs.declared.close.CloseStage.TheVariants.{LoadBank, ClearBank, StoreGen, StorePhase, Ended}
 
 -- the credit that has lapsed by now, the sweep generation that is to be stored, the number of stops, and the stage
@@ -30,11 +21,11 @@ module _ (c : Closing) where
   phase_at = record { stops = c.stops; phase = Off }
 
   abbrev pub asks_at : CloseStage → Ask
-  asks_at LoadBank = Load cell.Bank
-  asks_at ClearBank = Store cell.Bank 0
-  asks_at StoreGen = Store cell.Gen c.generation
-  asks_at StorePhase = Store cell.Phase (phase_word phase_at)
-  asks_at Ended = Load cell.Touch
+  asks_at LoadBank = Load Cell.Bank
+  asks_at ClearBank = Store Cell.Bank 0
+  asks_at StoreGen = Store Cell.Gen c.generation
+  asks_at StorePhase = Store Cell.Phase (phase_word phase_at)
+  asks_at Ended = Load Cell.Touch
 
   abbrev pub goes_at : CloseStage → ℕ → Closing
   goes_at LoadBank found = record c { lapsed = (c.lapsed + found) % 2 ^ 64; stage = ClearBank }

@@ -1,14 +1,7 @@
 -- What the sweep has counted is read: what is asked for at each stage, where that leads, and what it gives.
 use Rattle.std.specs.Prelude.{ℕ, Bool, false, Option, Some, None, is_none}
-use Rattle.gh_base.specs.declared.cell.Cell.TheVariants as cell
-use Rattle.gh_base.specs.declared.cell.Ask.{Ask}
-use Rattle.gh_base.specs.declared.cell.Ask.TheVariants.{Load}
-use Rattle.gh_base.specs.declared.layout.Layout.{Layout}
-use Rattle.gh_base.specs.Footprints.{Footprint}
-use Rattle.gh_base.specs.Machines.{Listing}
-use Rattle.gh_base.specs.Packing.{tally_of}
+use Rattle.gh_coord.specs.Vocabulary.{Ask, Cell, Counted, Footprint, Layout, Listing, Load, tally_of}
 use Rattle.gh_coord.specs.declared.count.Count.{Count}
-use Rattle.gh_coord.specs.declared.count.Counted.{Counted}
 use Rattle.gh_coord.specs.declared.count.CountStage.{CountStage}
 use Rattle.gh_coord.specs.declared.count.CountStage.TheVariants.{LoadTally, LoadLive, Ended}
 
@@ -22,9 +15,9 @@ abbrev pub at_stage : Counting → CountStage → Counting
 at_stage c stage = record c { stage = stage }
 
 abbrev pub asks_at : CountStage → Ask
-asks_at LoadTally = Load cell.Tally
-asks_at (LoadLive tally) = Load cell.Live
-asks_at (Ended counted) = Load cell.Touch
+asks_at LoadTally = Load Cell.Tally
+asks_at (LoadLive tally) = Load Cell.Live
+asks_at (Ended counted) = Load Cell.Touch
 
 abbrev pub goes_at : Counting → CountStage → ℕ → Counting
 goes_at c LoadTally found = at_stage c (LoadLive (tally_of found))

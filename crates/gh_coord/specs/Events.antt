@@ -1,6 +1,7 @@
 -- What a step of the coordinator comes to: its part goes on, or one of these events, each with the stage that follows. What is said of a step is said of the event, by the stage at which it happens; how a part goes on is that part's own.
 use Rattle.std.proofs.Common.{◌≡◌, ◌≢◌, ℕ, ◌+◌, ◌<◌, ◌≤◌, ◌==◌, Bool, true, false, cond, ltb, refl, sym, ap, subst, ◌∙◌, arith, Option, Some, None, is_none}
 use Rattle.std.proofs.lemmas.Bool.Decides.{nat_tests}
+use Rattle.gh_coord.specs.Vocabulary.{All, Check, Close, CloseStage, CoordStage, Count, Counted, Done, GONE, Layout, LoadAck, LoadWant, MarkOn, NotYet, Open, Stop, StopAgain, Sweep, Tell, Watch, Watched}
 use Rattle.gh_coord.specs.Closing as close
 use Rattle.gh_coord.specs.Counting as count
 use Rattle.gh_coord.specs.Listing.{after_check, after_close, after_count, after_open, after_stop, after_stop_again, after_sweep, after_tell, after_watch, at_stage, checks, closes, Coordinating, counts, goes_at, is_busy, opens, stops_again, stops_world, sweeps, tells, watches}
@@ -9,7 +10,6 @@ use Rattle.gh_coord.specs.Stopping as stop
 use Rattle.gh_coord.specs.SweepingAll as sweep
 use Rattle.gh_coord.specs.Telling as tell
 use Rattle.gh_coord.specs.Watching as watch
-use Rattle.gh_coord.specs.Vocabulary.{All, Check, Close, CloseStage, CoordStage, Count, Counted, Done, GONE, Layout, LoadAck, LoadWant, MarkOn, NotYet, Open, Stop, StopAgain, Sweep, Tell, Watch, Watched}
 
 pub data Event : Type 0 where
   -- its part goes on, and is at this stage then

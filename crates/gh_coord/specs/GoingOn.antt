@@ -1,6 +1,6 @@
 -- That the coordinator asks for a further step as long as it is not done.
 use Rattle.std.specs.Prelude.{◌≡◌, ℕ, true, not}
-use Rattle.gh_base.specs.declared.layout.Layout.{Layout}
+use Rattle.gh_coord.specs.Vocabulary.{Layout}
 use Rattle.gh_coord.specs.Listing.{Coordinating, goes, is_busy, is_done_at, opening}
 
 -- it has a further step exactly where it is not done

@@ -1,19 +1,13 @@
 -- Where the coordinator stands in the handshake of a stop.
 use Rattle.std.specs.Prelude.{◌≡◌, ◌≢◌, ℕ, ◌+◌, ◌-◌, ◌%◌, ◌^◌, ◌<◌, ◌⊎◌, ◌↔◌, Bool, true, if◌then◌else◌}
-use Rattle.gh_base.specs.declared.cell.Cell.TheVariants as cell
+use Rattle.gh_coord.specs.Vocabulary.{Cell, Check, Close, CloseStage, CoordStage, Count, Done, GONE, Layout, Load, LoadAck, LoadWant, MarkOn, Open, OpenStage, Stop, StopAgain, StopStage, Store, Sweep, Tell, TellStage, Watch}
 use Rattle.gh_phase.specs.declared.view.RunPhase.{RunPhase}
-use Rattle.gh_phase.specs.declared.view.RunPhase.TheVariants as run
 use Rattle.gh_phase.specs.Handshake.{Calm, first_lead, last_of, Lead, LeadGoes, Looks, Post, stop_before, stop_word, Stopped}
-use Rattle.gh_coord.specs.declared.close.CloseStage.TheVariants as close_stage
-use Rattle.gh_coord.specs.declared.open.OpenStage.TheVariants as open_stage
-use Rattle.gh_coord.specs.declared.stop.StopStage.TheVariants as stop_stage
-use Rattle.gh_coord.specs.declared.tell.TellStage.TheVariants as tell_stage
 use Rattle.gh_coord.specs.Closing as close
 use Rattle.gh_coord.specs.Opening as open_
 use Rattle.gh_coord.specs.Listing.{asks, asks_at, Coordinating, goes, is_busy, opening}
 use Rattle.gh_coord.specs.Stopping.{acks_of}
 use Rattle.gh_coord.specs.Telling as tell
-use Rattle.gh_coord.specs.Vocabulary.{Check, Close, CloseStage, CoordStage, Count, Done, GONE, Layout, Load, LoadAck, LoadWant, MarkOn, Open, OpenStage, Stop, StopAgain, StopStage, Store, Sweep, Tell, TellStage, Watch}
 
 -- the numbers before these
 abbrev pub cycle_before : ℕ → ℕ
@@ -24,45 +18,45 @@ generation_before generation = (generation + (2 ^ 34 - 2)) % 2 ^ 34
 
 -- in a stop behind this phase
 abbrev pub stop_post : RunPhase → StopStage → Post
-stop_post phase stop_stage.StorePhase = Calm phase
-stop_post phase (stop_stage.Await ack) = Looks phase ack
-stop_post phase stop_stage.Ended = Stopped phase
+stop_post phase StopStage.StorePhase = Calm phase
+stop_post phase (StopStage.Await ack) = Looks phase ack
+stop_post phase StopStage.Ended = Stopped phase
 
 abbrev pub open_post : OpenStage → Post
-open_post open_stage.Ended = Calm run.Mark
-open_post _ = Stopped run.Off
+open_post OpenStage.Ended = Calm RunPhase.Mark
+open_post _ = Stopped RunPhase.Off
 
 abbrev pub told_phase : (is_last : Bool) → RunPhase
-told_phase is_last = if is_last then run.Finished else run.Off
+told_phase is_last = if is_last then RunPhase.Finished else RunPhase.Off
 
 abbrev pub tell_post : (is_last : Bool) → TellStage → Post
-tell_post is_last tell_stage.Ended = Calm (told_phase is_last)
-tell_post is_last _ = Calm run.Off
+tell_post is_last TellStage.Ended = Calm (told_phase is_last)
+tell_post is_last _ = Calm RunPhase.Off
 
 abbrev pub close_post : CloseStage → Post
-close_post close_stage.Ended = Calm run.Off
-close_post _ = Stopped run.Mark
+close_post CloseStage.Ended = Calm RunPhase.Off
+close_post _ = Stopped RunPhase.Mark
 
 -- The world is stopped while a cycle is opened, and from the check on until its marking is ended. It runs while spans are swept.
 abbrev pub post_at : CoordStage → Post
-post_at (LoadAck i) = Calm run.Off
-post_at LoadWant = Calm run.Off
-post_at (Stop st) = stop_post run.Off st.stage
+post_at (LoadAck i) = Calm RunPhase.Off
+post_at LoadWant = Calm RunPhase.Off
+post_at (Stop st) = stop_post RunPhase.Off st.stage
 post_at (Open o) = open_post o.stage
-post_at (Watch w) = Calm run.Mark
-post_at (StopAgain st) = stop_post run.Mark st.stage
-post_at (Check w) = Stopped run.Mark
-post_at MarkOn = Stopped run.Mark
+post_at (Watch w) = Calm RunPhase.Mark
+post_at (StopAgain st) = stop_post RunPhase.Mark st.stage
+post_at (Check w) = Stopped RunPhase.Mark
+post_at MarkOn = Stopped RunPhase.Mark
 post_at (Close c) = close_post c.stage
-post_at (Sweep w) = Calm run.Off
-post_at (Count c) = Calm run.Off
+post_at (Sweep w) = Calm RunPhase.Off
+post_at (Count c) = Calm RunPhase.Off
 post_at (Tell t) = tell_post t.is_last t.stage
-post_at Done = Calm run.Finished
+post_at Done = Calm RunPhase.Finished
 
 -- The numbers that are stored: a number that it raises is stored later.
 
 abbrev pub stored_stop : (stops : ℕ) → StopStage → ℕ
-stored_stop stops stop_stage.StorePhase = stop_before stops
+stored_stop stops StopStage.StorePhase = stop_before stops
 stored_stop stops _ = stops
 
 abbrev pub stop_stored_at : (stops : ℕ) → CoordStage → ℕ
@@ -71,8 +65,8 @@ stop_stored_at stops (StopAgain st) = stored_stop stops st.stage
 stop_stored_at stops _ = stops
 
 abbrev pub stored_cycle : (begun : ℕ) → OpenStage → ℕ
-stored_cycle begun open_stage.StorePhase = begun
-stored_cycle begun open_stage.Ended = begun
+stored_cycle begun OpenStage.StorePhase = begun
+stored_cycle begun OpenStage.Ended = begun
 stored_cycle begun _ = cycle_before begun
 
 abbrev pub begun_at : (begun : ℕ) → CoordStage → ℕ
@@ -80,8 +74,8 @@ begun_at begun (Open o) = stored_cycle begun o.stage
 begun_at begun _ = begun
 
 abbrev pub stored_generation : (generation : ℕ) → CloseStage → ℕ
-stored_generation generation close_stage.StorePhase = generation
-stored_generation generation close_stage.Ended = generation
+stored_generation generation CloseStage.StorePhase = generation
+stored_generation generation CloseStage.Ended = generation
 stored_generation generation _ = generation_before generation
 
 abbrev pub generation_at : (generation : ℕ) → CoordStage → ℕ
@@ -132,7 +126,7 @@ gone_to _ = 0
 
 -- the processor at this seat was found gone before, or is found so by this step
 abbrev pub IsFoundGone : Layout → (found : ℕ) → Coordinating → CoordStage → (a : ℕ) → Type 0
-IsFoundGone l found s stage a = (a < gone_to stage) ⊎ ((asks_at l s stage ≡ Load (cell.Ack a)) × (found ≡ GONE))
+IsFoundGone l found s stage a = (a < gone_to stage) ⊎ ((asks_at l s stage ≡ Load (Cell.Ack a)) × (found ≡ GONE))
 
 -- a step that leads here
 pub record FindsGone (l : Layout) (found : ℕ) (s : Coordinating) (stage : CoordStage) (to : Coordinating) : Type 0 where
@@ -141,7 +135,7 @@ pub record FindsGone (l : Layout) (found : ℕ) (s : Coordinating) (stage : Coor
 
 -- Why it stops the world behind a step that leads here: that found a request for a cycle; or it is for the last cycle; or a cycle is marked, and its marking seems to be over.
 abbrev pub StopsFor : Layout → (found : ℕ) → (s to : Coordinating) → Type 0
-StopsFor l found s to = ((asks l s ≡ Load cell.Want) × (found ≢ 0)) ⊎ ((to.is_last ≡ true) ⊎ (last_of (post_at s.stage) ≡ run.Mark))
+StopsFor l found s to = ((asks l s ≡ Load Cell.Want) × (found ≢ 0)) ⊎ ((to.is_last ≡ true) ⊎ (last_of (post_at s.stage) ≡ RunPhase.Mark))
 
 pub record LeadsHandshake : Type 0 where
   -- before its first step
@@ -149,14 +143,14 @@ pub record LeadsHandshake : Type 0 where
   pub leads : (l : Layout) (seat gogc minheap room : ℕ) → lead_of (opening l seat gogc minheap room) ≡ first_lead
   -- the last phase is stored in the last cycle, for which each processor was found gone
   pub finds_gone : (l : Layout) (s : Coordinating) (found : ℕ) → is_busy s.stage ≡ true → FindsGone l found s s.stage (goes l s found)
-  pub finishes : (s : Coordinating) → Sound s → last_of (post_at s.stage) ≡ run.Finished → s.is_last ≡ true
+  pub finishes : (s : Coordinating) → Sound s → last_of (post_at s.stage) ≡ RunPhase.Finished → s.is_last ≡ true
   -- it stores a stop only where there is a reason to
-  pub stops_for : (l : Layout) (s : Coordinating) (found stop : ℕ) → asks l (goes l s found) ≡ Store cell.Phase (stop_word stop) → StopsFor l found s (goes l s found)
-  pub stops_at_first : (l : Layout) (seat gogc minheap room stop : ℕ) → asks l (opening l seat gogc minheap room) ≢ Store cell.Phase (stop_word stop)
+  pub stops_for : (l : Layout) (s : Coordinating) (found stop : ℕ) → asks l (goes l s found) ≡ Store Cell.Phase (stop_word stop) → StopsFor l found s (goes l s found)
+  pub stops_at_first : (l : Layout) (seat gogc minheap room stop : ℕ) → asks l (opening l seat gogc minheap room) ≢ Store Cell.Phase (stop_word stop)
   -- the world is never stopped behind the last phase
-  pub stops_go_on : (s : Coordinating) (phase : RunPhase) → post_at s.stage ≡ Stopped phase → phase ≢ run.Finished
+  pub stops_go_on : (s : Coordinating) (phase : RunPhase) → post_at s.stage ≡ Stopped phase → phase ≢ RunPhase.Finished
   -- where the world is not stopped the last phase that was no stop is that of marking exactly while a cycle is marked
-  pub marks_on : (s : Coordinating) → Sound s → ((phase : RunPhase) → post_at s.stage ≡ Stopped phase → ⊥) → last_of (post_at s.stage) ≡ run.Mark ↔ Marks s.stage
+  pub marks_on : (s : Coordinating) → Sound s → ((phase : RunPhase) → post_at s.stage ≡ Stopped phase → ⊥) → last_of (post_at s.stage) ≡ RunPhase.Mark ↔ Marks s.stage
   -- each step is one of the handshake
   pub stays_sound : (l : Layout) (s : Coordinating) (found : ℕ) → Sound s → is_busy s.stage ≡ true → Sound (goes l s found)
   pub goes : (l : Layout) (s : Coordinating) (found : ℕ) → Sound s → is_busy s.stage ≡ true → LeadGoes (acks_of l) found (lead_of s) (asks l s) (lead_of (goes l s found))

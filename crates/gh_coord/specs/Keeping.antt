@@ -1,6 +1,6 @@
 -- The list of swept cycles.
 use Rattle.std.specs.Prelude.{ℕ, ◌-◌, nat_lt, if◌then◌else◌, List, [], ◌∷◌, ◌++◌, length, slice_get, Option}
-use Rattle.gh_coord.specs.declared.cycles.Cycle.{Cycle}
+use Rattle.gh_coord.specs.Vocabulary.{Cycle}
 
 -- the cycles that are kept, in their order, and for how many there is room
 pub record Kept : Type 0 where

@@ -1,12 +1,8 @@
 -- Where marking is turned off, what the bank holds lapses, and the bank is empty then: said by the words, whatever the coordinator is told.
 use Rattle.std.specs.Prelude.{◌≡◌, ◌≢◌, ℕ, suc, ◌+◌, ◌%◌, ◌^◌}
-use Rattle.gh_base.specs.declared.cell.Ask.TheVariants as ask
-use Rattle.gh_base.specs.declared.cell.Cell.TheVariants.{Bank, Gen}
-use Rattle.gh_base.specs.Machines.{steps_of}
-use Rattle.gh_base.specs.Routines.{told}
+use Rattle.gh_coord.specs.Vocabulary.{Ask, Bank, Gen, Layout, Load, steps_of, Store, told}
 use Rattle.gh_coord.specs.Listing.{asks, Coordinating, goes, lapsed_at, opening}
 use Rattle.gh_coord.specs.Sound.{listing}
-use Rattle.gh_coord.specs.Vocabulary.{Ask, Layout, Load, Store}
 
 -- the credit that has lapsed by now
 abbrev pub lapsed_by_now : Coordinating → ℕ
@@ -17,10 +13,10 @@ abbrev pub LeavesOrClears : Ask → Type 0
 LeavesOrClears (Load c) = Unit {0}
 LeavesOrClears (Store Bank value) = value ≡ 0
 LeavesOrClears (Store c value) = Unit {0}
-LeavesOrClears (ask.Or c bits) = c ≢ Bank
-LeavesOrClears (ask.And c bits) = c ≢ Bank
-LeavesOrClears (ask.Add c more) = c ≢ Bank
-LeavesOrClears (ask.Swap c old new) = c ≢ Bank
+LeavesOrClears (Ask.Or c bits) = c ≢ Bank
+LeavesOrClears (Ask.And c bits) = c ≢ Bank
+LeavesOrClears (Ask.Add c more) = c ≢ Bank
+LeavesOrClears (Ask.Swap c old new) = c ≢ Bank
 
 -- A step that loads the bank: what it found has lapsed, and the next step clears the bank.
 pub record Lapses (l : Layout) (s : Coordinating) (found : ℕ) : Type 0 where

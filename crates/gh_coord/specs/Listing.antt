@@ -1,8 +1,6 @@
 -- The coordinator: what it asks for at each stage, where that leads, and what it gives.
 use Rattle.std.specs.Prelude.{ℕ, ◌+◌, ◌-◌, ◌%◌, ◌^◌, Bool, true, false, min, nat_lt, ◌==◌, if◌then◌else◌, [], Option, Some, None}
-use Rattle.gh_base.specs.declared.cell.Cell.TheVariants as cell
-use Rattle.gh_base.specs.declared.pack.Phase.TheVariants as phase
-use Rattle.gh_base.specs.Cells.{ack_row}
+use Rattle.gh_coord.specs.Vocabulary.{ack_row, All, Ask, bit, Cell, Check, Close, CoordStage, Count, Counted, Cycle, Done, GONE, Layout, Load, LoadAck, LoadWant, MarkOn, NotYet, Open, Phase, phase_word, Stop, StopAgain, Store, Sweep, Sweeping, Tell, Watch, Watched}
 use Rattle.gh_coord.specs.Closing as close
 use Rattle.gh_coord.specs.Counting as count
 use Rattle.gh_coord.specs.Keeping.{Kept, kept_with_cycle, last_kept}
@@ -12,8 +10,7 @@ use Rattle.gh_coord.specs.Stopping as stop
 use Rattle.gh_coord.specs.SweepingAll as sweep
 use Rattle.gh_coord.specs.Telling as tell
 use Rattle.gh_coord.specs.Watching as watch
-use Rattle.gh_sweep.specs.Listing.{Sweeping}
-use Rattle.gh_coord.specs.Vocabulary.{All, Ask, bit, Check, Close, CoordStage, Count, Counted, Cycle, Done, GONE, Layout, Load, LoadAck, LoadWant, MarkOn, NotYet, Open, phase_word, Stop, StopAgain, Store, Sweep, TallyWord, Tell, Watch, Watched}
+use Rattle.gh_base.specs.declared.pack.TallyWord.{TallyWord}
 
 -- What the coordinator knows: its seat and pacing, and where the acknowledgements begin; the numbers of the stops and of the cycle, and the sweep generation; the bytes marked of the last swept cycle; the credit that had lapsed by the last cycle; that each processor is done; how often it has stored the phase word; the cycles that it keeps; and its stage.
 pub record Coordinating : Type 0 where
@@ -66,19 +63,19 @@ abbrev pub cycle_of : (k : ℕ) → TallyWord → Cycle
 cycle_of k t = record { k = k; marked = t.marked; freed = t.freed }
 
 abbrev pub asks_at : Layout → Coordinating → CoordStage → Ask
-asks_at l s (LoadAck i) = Load (cell.Ack i)
-asks_at l s LoadWant = Load cell.Want
+asks_at l s (LoadAck i) = Load (Cell.Ack i)
+asks_at l s LoadWant = Load Cell.Want
 asks_at l s (Stop st) = stop.asks st
 asks_at l s (Open o) = open_.asks o
 asks_at l s (Watch w) = watch.asks l w
 asks_at l s (StopAgain st) = stop.asks st
 asks_at l s (Check w) = watch.asks l w
-asks_at l s MarkOn = Store cell.Phase (phase_word (record { stops = s.stops; phase = phase.Mark }))
+asks_at l s MarkOn = Store Cell.Phase (phase_word (record { stops = s.stops; phase = Phase.Mark }))
 asks_at l s (Close c) = close.asks c
 asks_at l s (Sweep w) = sweep.asks l w
 asks_at l s (Count c) = count.asks c
 asks_at l s (Tell t) = tell.asks t
-asks_at l s Done = Load cell.Touch
+asks_at l s Done = Load Cell.Touch
 
 module _ (s : Coordinating) where
   -- it begins to stop the world, for a cycle that is to be opened or for the check that marking is over

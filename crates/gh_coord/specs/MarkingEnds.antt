@@ -1,16 +1,10 @@
 -- Where the coordinator ends a cycle's marking it has found, in a stopped world, that nothing is left to mark: said by the words, whatever it is told.
 use Rattle.std.specs.Prelude.{◌≡◌, ◌≢◌, ℕ, ◌+◌, ◌<◌, ◌≤◌, ◌⊎◌}
-use Rattle.gh_base.specs.declared.cell.Cell.{Cell}
-use Rattle.gh_base.specs.declared.cell.Cell.TheVariants.{Ack, Bank, Buffer, Gcur, Gen, Phase, Scanned}
-use Rattle.gh_base.specs.declared.pack.BufferWord.{BufferWord}
+use Rattle.gh_coord.specs.Vocabulary.{Ack, Ask, Bank, Buffer, buffer_of, buffers_of, BufferWord, Cell, Gcur, Gen, GONE, Layout, Load, phase_word, Scanned, steps_of, Store, told}
+use Rattle.gh_base.specs.declared.cell.Cell.TheVariants.{Phase}
 use Rattle.gh_base.specs.declared.pack.Phase.TheVariants as phase
-use Rattle.gh_base.specs.Cells.{buffers_of}
-use Rattle.gh_base.specs.Packing.{buffer_of, phase_word}
-use Rattle.gh_base.specs.Machines.{steps_of}
-use Rattle.gh_base.specs.Routines.{told}
 use Rattle.gh_coord.specs.Listing.{asks, Coordinating, opening}
 use Rattle.gh_coord.specs.Sound.{listing}
-use Rattle.gh_coord.specs.Vocabulary.{Ask, GONE, Layout, Load, Store}
 
 -- the step writes no word but the bank of credit
 abbrev pub LeavesMarks : Ask → Type 0

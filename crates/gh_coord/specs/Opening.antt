@@ -1,20 +1,10 @@
 -- A cycle is opened: what is asked for at each stage, where that leads, and what it gives.
 use Rattle.std.specs.Prelude.{ℕ, ◌^◌, ◌<◌, Bool, true, false, Option, Some, None, is_none}
-use Rattle.gh_base.specs.declared.cell.Cell.TheVariants as cell
-use Rattle.gh_base.specs.declared.cell.Ask.{Ask}
-use Rattle.gh_base.specs.declared.cell.Ask.TheVariants.{Load, Store}
-use Rattle.gh_base.specs.declared.layout.Layout.{Layout}
-use Rattle.gh_base.specs.declared.pack.Phase.TheVariants as phase
-use Rattle.gh_base.specs.Footprints.{Footprint}
+use Rattle.gh_coord.specs.Vocabulary.{Ask, Cell, Footprint, Layout, Listing, Load, NEVER, OpenStage, Phase, phase_word, slack, Store}
 use Rattle.gh_base.specs.Footprints as row
-use Rattle.gh_base.specs.Machines.{Listing}
-use Rattle.gh_base.specs.Packing.{phase_word}
 use Rattle.gh_coord.specs.declared.open.Open.{Open}
-use Rattle.gh_coord.specs.declared.open.OpenStage.{OpenStage}
 use Rattle.gh_coord.specs.declared.open.OpenStage.TheVariants.{ClearWant, ClearGcur, ClearTally, ClearLive, StoreTrigger, LoadHeap, StoreWork, StoreSlack, StoreBegun, StorePhase, Ended}
 use Rattle.gh_coord.specs.Pacing.{taken_bytes}
-use Rattle.gh_pacer.specs.declared.pacing.TheConstants.{NEVER}
-use Rattle.gh_pacer.specs.Pacing.{slack}
 
 -- the number of stops, that of the cycle, the words that are to be scanned, the goal, the heap's bytes once they are found, and the stage
 abbrev pub CycleOpening : Type 0
@@ -38,17 +28,17 @@ behind Ended = Ended
 
 module _ (o : CycleOpening) where
   abbrev pub asks_at : OpenStage → Ask
-  asks_at ClearWant = Store cell.Want 0
-  asks_at ClearGcur = Store cell.Gcur 0
-  asks_at ClearTally = Store cell.Tally 0
-  asks_at ClearLive = Store cell.Live 0
-  asks_at StoreTrigger = Store cell.Trigger NEVER
-  asks_at LoadHeap = Load cell.Heap
-  asks_at StoreWork = Store cell.Work o.work
-  asks_at StoreSlack = Store cell.Slack (slack o.heap o.goal)
-  asks_at StoreBegun = Store cell.Begun o.cycle
-  asks_at StorePhase = Store cell.Phase (phase_word (record { stops = o.stops; phase = phase.Mark }))
-  asks_at Ended = Load cell.Touch
+  asks_at ClearWant = Store Cell.Want 0
+  asks_at ClearGcur = Store Cell.Gcur 0
+  asks_at ClearTally = Store Cell.Tally 0
+  asks_at ClearLive = Store Cell.Live 0
+  asks_at StoreTrigger = Store Cell.Trigger NEVER
+  asks_at LoadHeap = Load Cell.Heap
+  asks_at StoreWork = Store Cell.Work o.work
+  asks_at StoreSlack = Store Cell.Slack (slack o.heap o.goal)
+  asks_at StoreBegun = Store Cell.Begun o.cycle
+  asks_at StorePhase = Store Cell.Phase (phase_word (record { stops = o.stops; phase = Phase.Mark }))
+  asks_at Ended = Load Cell.Touch
 
   -- the heap's bytes that it has found by then
   abbrev pub found_at : OpenStage → ℕ → ℕ

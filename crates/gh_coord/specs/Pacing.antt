@@ -1,7 +1,6 @@
 -- What the coordinator paces cycles by.
 use Rattle.std.specs.Prelude.{ℕ, ◌%◌, ◌^◌, Option}
-use Rattle.gh_pacer.specs.Pacing.{goal, roots, trigger, work}
-use Rattle.gh_base.specs.declared.layout.Layout.{Layout}
+use Rattle.gh_coord.specs.Vocabulary.{goal, Layout, roots, trigger, work}
 
 -- what is taken of a number of bytes that was found in a word: all of it, where it is that of a heap
 abbrev pub taken_bytes : ℕ → ℕ

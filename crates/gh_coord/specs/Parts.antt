@@ -1,7 +1,4 @@
 -- Where the coordinator is in a cycle, by its stage.
-use Rattle.gh_coord.specs.declared.close.CloseStage.TheVariants as close_stage
-use Rattle.gh_coord.specs.declared.open.OpenStage.TheVariants as open_stage
-use Rattle.gh_coord.specs.declared.tell.TellStage.TheVariants as tell_stage
 use Rattle.gh_coord.specs.Vocabulary.{Check, Close, CloseStage, CoordStage, Count, Done, LoadAck, LoadWant, MarkOn, Open, OpenStage, Stop, StopAgain, Sweep, Tell, TellStage, Watch}
 
 pub data Part : Type 0 where
@@ -21,19 +18,19 @@ pub data Part : Type 0 where
   Counted : Part
 
 abbrev pub open_part : OpenStage → Part
-open_part open_stage.ClearWant = Numbered
-open_part open_stage.StorePhase = Begun
-open_part open_stage.Ended = Begun
+open_part OpenStage.ClearWant = Numbered
+open_part OpenStage.StorePhase = Begun
+open_part OpenStage.Ended = Begun
 open_part _ = Opened
 
 abbrev pub close_part : CloseStage → Part
-close_part close_stage.StorePhase = Ended
-close_part close_stage.Ended = Ended
+close_part CloseStage.StorePhase = Ended
+close_part CloseStage.Ended = Ended
 close_part _ = Checked
 
 abbrev pub tell_part : TellStage → Part
-tell_part tell_stage.StoreTrigger = Counted
-tell_part tell_stage.StoreSwept = Counted
+tell_part TellStage.StoreTrigger = Counted
+tell_part TellStage.StoreSwept = Counted
 tell_part _ = Outside
 
 abbrev pub part_of : CoordStage → Part

@@ -1,6 +1,5 @@
 -- The coordinator is a routine, and so is each part of it.
-use Rattle.gh_base.specs.declared.layout.Layout.{Layout}
-use Rattle.gh_base.specs.Machines.{IsRoutine}
+use Rattle.gh_coord.specs.Vocabulary.{IsRoutine, Layout}
 use Rattle.gh_coord.specs.Closing as close
 use Rattle.gh_coord.specs.Counting as count
 use Rattle.gh_coord.specs.Opening as open_

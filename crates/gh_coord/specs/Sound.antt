@@ -1,12 +1,7 @@
 -- What the coordinator knows of its own numbers, whatever it is told, and what it is as a routine.
 use Rattle.std.specs.Prelude.{◌≡◌, ℕ, ◌<◌, true, false, Option, Some, None}
-use Rattle.gh_base.specs.declared.layout.Layout.{Layout}
-use Rattle.gh_base.specs.Cells.{ack_row}
-use Rattle.gh_base.specs.Footprints.{Footprint}
+use Rattle.gh_coord.specs.Vocabulary.{ack_row, Check, Close, CoordStage, Count, Done, Footprint, Layout, Listing, LoadAck, LoadWant, MarkOn, Open, Runs, Stop, StopAgain, Sweep, Tell, Watch}
 use Rattle.gh_base.specs.Footprints as row
-use Rattle.gh_base.specs.Machines.{Listing, Runs}
-use Rattle.gh_coord.specs.declared.coord.CoordStage.{CoordStage}
-use Rattle.gh_coord.specs.declared.coord.CoordStage.TheVariants.{LoadAck, LoadWant, Stop, Open, Watch, StopAgain, Check, MarkOn, Close, Sweep, Count, Tell, Done}
 use Rattle.gh_coord.specs.Closing as close
 use Rattle.gh_coord.specs.Counting as count
 use Rattle.gh_coord.specs.Handshake.{FitsNumbers}

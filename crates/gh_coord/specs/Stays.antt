@@ -1,9 +1,8 @@
 -- What a step of the coordinator leaves: the room for cycles. And that it has given nothing exactly where it asks for a further step.
-use Rattle.std.proofs.Common.{arith}
-use Rattle.std.specs.Prelude.{◌≡◌, ℕ, true, ◌↔◌, is_none, IsNone}
+use Rattle.std.proofs.Common.{arith, ◌≡◌, ℕ, true, ◌↔◌, is_none, IsNone}
+use Rattle.gh_coord.specs.Vocabulary.{CoordStage, Layout}
 use Rattle.gh_coord.specs.Events.{by_event}
 use Rattle.gh_coord.specs.Listing.{Coordinating, counted, given, given_at, goes, goes_at, is_busy}
-use Rattle.gh_coord.specs.Vocabulary.{CoordStage, Layout}
 
 -- where it asks for a step it has given nothing
 pub gives_nothing : (p : CoordStage) → is_busy p ≡ true → is_none (given_at p) ≡ true

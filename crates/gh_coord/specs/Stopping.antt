@@ -1,17 +1,8 @@
 -- A stop of the world: what is asked for at each stage, where that leads, and what it gives.
 use Rattle.std.specs.Prelude.{ℕ, ◌+◌, ◌^◌, ◌<◌, Bool, true, false, nat_lt, ◌==◌, ◌||◌, if◌then◌else◌, Option, Some, None, is_none}
-use Rattle.gh_base.specs.declared.cell.Cell.TheVariants as cell
-use Rattle.gh_base.specs.declared.cell.Ask.{Ask}
-use Rattle.gh_base.specs.declared.cell.Ask.TheVariants.{Load, Store}
-use Rattle.gh_base.specs.declared.layout.Layout.{Layout}
-use Rattle.gh_base.specs.declared.pack.Phase.TheVariants as phase
-use Rattle.gh_base.specs.declared.pack.TheConstants.{GONE}
-use Rattle.gh_base.specs.Footprints.{Footprint}
+use Rattle.gh_coord.specs.Vocabulary.{Ask, Cell, Footprint, GONE, Layout, Listing, Load, Phase, phase_word, StopStage, Store}
 use Rattle.gh_base.specs.Footprints as row
-use Rattle.gh_base.specs.Machines.{Listing}
-use Rattle.gh_base.specs.Packing.{phase_word}
 use Rattle.gh_coord.specs.declared.stop.Stop.{Stop}
-use Rattle.gh_coord.specs.declared.stop.StopStage.{StopStage}
 use Rattle.gh_coord.specs.declared.stop.StopStage.TheVariants.{StorePhase, Await, Ended}
 
 -- the number of the stop, and its stage
@@ -33,9 +24,9 @@ abbrev pub is_acknowledged : (stops found : ℕ) → Bool
 is_acknowledged stops found = (found == stops) || (found == GONE)
 
 abbrev pub asks_at : Stopping → StopStage → Ask
-asks_at s StorePhase = Store cell.Phase (phase_word (record { stops = s.stops; phase = phase.Stop }))
-asks_at s (Await ack) = Load (cell.Ack ack)
-asks_at s Ended = Load cell.Touch
+asks_at s StorePhase = Store Cell.Phase (phase_word (record { stops = s.stops; phase = Phase.Stop }))
+asks_at s (Await ack) = Load (Cell.Ack ack)
+asks_at s Ended = Load Cell.Touch
 
 module _ (l : Layout) where
   -- the next acknowledgement, if there is one

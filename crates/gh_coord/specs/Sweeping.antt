@@ -1,8 +1,7 @@
 -- The coordinator runs the steps of sweeps, one span after the other, and tells that a cycle is swept once each span is.
 use Rattle.std.specs.Prelude.{◌≡◌, ℕ, true, Some, None}
-use Rattle.gh_base.specs.declared.layout.Layout.{Layout}
+use Rattle.gh_coord.specs.Vocabulary.{is_busy, Layout, Sweeping}
 use Rattle.gh_sweep.specs.Running.{BeginsSweep, SweepsOn}
-use Rattle.gh_sweep.specs.Listing.{is_busy, Sweeping}
 use Rattle.gh_coord.specs.Handshake.{Sound}
 use Rattle.gh_coord.specs.Listing.{asks, Coordinating, goes, opening, sweep_in}
 use Rattle.gh_coord.specs.SweptPages.{TellsOnceAllAreSwept}

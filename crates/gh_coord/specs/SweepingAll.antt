@@ -1,20 +1,10 @@
 -- Each span is swept: what is asked for at each stage, where that leads, and what it gives.
 use Rattle.std.specs.Prelude.{◌≡◌, ℕ, ◌+◌, ◌^◌, ◌<◌, Bool, true, false, nat_lt, ◌==◌, if◌then◌else◌, Option, Some, None, is_none}
-use Rattle.gh_base.specs.declared.cell.Cell.TheVariants.{Page, Touch}
-use Rattle.gh_base.specs.declared.cell.Ask.{Ask}
-use Rattle.gh_base.specs.declared.cell.Ask.TheVariants.{Load}
-use Rattle.gh_base.specs.declared.layout.Layout.{Layout}
-use Rattle.gh_base.specs.declared.pack.PageWord.{PageWord}
-use Rattle.gh_base.specs.declared.pack.PageWord.TheVariants.{Head}
-use Rattle.gh_base.specs.Footprints.{Footprint}
+use Rattle.gh_coord.specs.Vocabulary.{Ask, Footprint, Head, Layout, Listing, Load, Lost, Page, page_of, PageWord, Runs, SweepEnd, Swept, Touch}
 use Rattle.gh_base.specs.Footprints as row
-use Rattle.gh_base.specs.Machines.{Listing, Runs}
-use Rattle.gh_base.specs.Packing.{page_of}
 use Rattle.gh_coord.specs.declared.sweep_all.SweepAll.{SweepAll}
 use Rattle.gh_coord.specs.declared.sweep_all.SweepAllStage.{SweepAllStage}
 use Rattle.gh_coord.specs.declared.sweep_all.SweepAllStage.TheVariants.{LoadPage, Sweep, Await, Ended}
-use Rattle.gh_sweep.specs.declared.sweep.SweepEnd.{SweepEnd}
-use Rattle.gh_sweep.specs.declared.sweep.SweepEnd.TheVariants.{Lost, Swept}
 use Rattle.gh_sweep.specs.Listing as sweep
 
 -- the sweep generation, and the stage

@@ -1,14 +1,10 @@
 -- Where the coordinator tells that a cycle is swept, it has found of each page that nothing is left to sweep there: said by the words, whatever it is told.
 use Rattle.std.specs.Prelude.{◌≡◌, ◌≢◌, ℕ, ◌+◌, ◌<◌, ◌≤◌, ◌⊎◌, Option, Some}
-use Rattle.gh_base.specs.declared.cell.Cell.TheVariants.{Gen, Page, Swept}
-use Rattle.gh_base.specs.Machines.{steps_of}
-use Rattle.gh_base.specs.Routines.{told}
+use Rattle.gh_coord.specs.Vocabulary.{Ask, Gen, gives, Head, Layout, Load, Lost, Page, page_of, PageWord, steps_of, Store, SweepEnd, Sweeping, told}
+use Rattle.gh_base.specs.declared.cell.Cell.TheVariants.{Swept}
 use Rattle.gh_coord.specs.Listing.{asks, Coordinating, opening, sweep_in}
 use Rattle.gh_coord.specs.Sound.{listing}
-use Rattle.gh_coord.specs.Vocabulary.{Ask, Head, Layout, Load, Lost, page_of, PageWord, Store, SweepEnd}
-use Rattle.gh_sweep.specs.declared.sweep.SweepEnd.TheVariants as sweep_end
 use Rattle.gh_sweep.specs.declared.sweep.SweptSpan.{SweptSpan}
-use Rattle.gh_sweep.specs.Listing.{gives, Sweeping}
 
 -- By its word no span begins at the page whose sweep number is so much below the sweep generation: 2 below it is unswept, 1 below somebody sweeps it.
 abbrev pub IsNone : (below generation : ℕ) → PageWord → Type 0
@@ -42,7 +38,7 @@ module _ (l : Layout) (seat gogc minheap room : ℕ) (found : ℕ → ℕ) where
 
   -- with this step it has swept the span there itself
   abbrev pub HasSwept : (page by : ℕ) → Type 0
-  HasSwept page by = (span : SweptSpan) × EndsSweep (sweep_in (state by)) (found by) page (sweep_end.Swept span)
+  HasSwept page by = (span : SweptSpan) × EndsSweep (sweep_in (state by)) (found by) page (SweepEnd.Swept span)
 
   -- By one of the first n steps it has swept the span itself, or found that nobody sweeps it, and by that step or one before that it is not unswept. Since then the sweep generation was not stored.
   pub record HasPassed (n generation page : ℕ) : Type 0 where

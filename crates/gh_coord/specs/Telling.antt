@@ -1,17 +1,8 @@
 -- It is told that a cycle is swept: what is asked for at each stage, where that leads, and what it gives.
 use Rattle.std.specs.Prelude.{ℕ, ◌^◌, ◌<◌, Bool, true, false, if◌then◌else◌, Option, Some, None, is_none}
-use Rattle.gh_base.specs.declared.cell.Cell.TheVariants as cell
-use Rattle.gh_base.specs.declared.cell.Ask.{Ask}
-use Rattle.gh_base.specs.declared.cell.Ask.TheVariants.{Load, Store}
-use Rattle.gh_base.specs.declared.layout.Layout.{Layout}
-use Rattle.gh_base.specs.declared.pack.Phase.TheVariants.{Finished}
-use Rattle.gh_base.specs.declared.pack.PhaseWord.{PhaseWord}
-use Rattle.gh_base.specs.Footprints.{Footprint}
+use Rattle.gh_coord.specs.Vocabulary.{Ask, Cell, Finished, Footprint, Layout, Listing, Load, phase_word, PhaseWord, Store, TellStage}
 use Rattle.gh_base.specs.Footprints as row
-use Rattle.gh_base.specs.Machines.{Listing}
-use Rattle.gh_base.specs.Packing.{phase_word}
 use Rattle.gh_coord.specs.declared.tell.Tell.{Tell}
-use Rattle.gh_coord.specs.declared.tell.TellStage.{TellStage}
 use Rattle.gh_coord.specs.declared.tell.TellStage.TheVariants.{StoreTrigger, StoreSwept, StorePhase, Ended}
 
 -- the trigger of the next cycle, the number of this one, that of the stops, that it was the last cycle, and the stage
@@ -27,10 +18,10 @@ module _ (t : Telling) where
   phase_at = record { stops = t.stops; phase = Finished }
 
   abbrev pub asks_at : TellStage → Ask
-  asks_at StoreTrigger = Store cell.Trigger t.trigger
-  asks_at StoreSwept = Store cell.Swept t.cycle
-  asks_at StorePhase = Store cell.Phase (phase_word phase_at)
-  asks_at Ended = Load cell.Touch
+  asks_at StoreTrigger = Store Cell.Trigger t.trigger
+  asks_at StoreSwept = Store Cell.Swept t.cycle
+  asks_at StorePhase = Store Cell.Phase (phase_word phase_at)
+  asks_at Ended = Load Cell.Touch
 
 -- the phase word is stored behind the last cycle alone
 abbrev pub behind : (is_last : Bool) → TellStage → TellStage

@@ -1,10 +1,8 @@
 -- The trigger that the coordinator stores is by what it has read of the sweep: said by the words, whatever it is told.
 use Rattle.std.specs.Prelude.{◌≡◌, ◌≢◌, ℕ, ◌⊎◌, true}
-use Rattle.gh_base.specs.declared.cell.Cell.TheVariants.{Live, Tally, Trigger}
-use Rattle.gh_pacer.specs.declared.pacing.TheConstants.{NEVER}
+use Rattle.gh_coord.specs.Vocabulary.{Layout, Live, Load, NEVER, Store, Tally, Trigger}
 use Rattle.gh_coord.specs.Listing.{asks, Coordinating, goes, is_busy, opening}
 use Rattle.gh_coord.specs.Pacing.{next_trigger}
-use Rattle.gh_coord.specs.Vocabulary.{Layout, Load, Store}
 
 -- Behind a step that loaded the live bytes: the trigger is by what that found. Behind the one that clears them, where a cycle is opened, it is never reached.
 abbrev pub IsTrigger : Layout → Coordinating → (found value : ℕ) → Type 0

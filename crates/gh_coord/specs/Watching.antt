@@ -1,18 +1,7 @@
 -- A look at the words that say whether marking is over: what is asked for at each stage, where that leads, and what it gives.
 use Rattle.std.specs.Prelude.{ℕ, ◌+◌, ◌-◌, ◌<◌, Bool, true, false, nat_le, nat_lt, ◌==◌, ◌||◌, not, if◌then◌else◌, Option, Some, None, is_none}
-use Rattle.gh_base.specs.declared.cell.Cell.{Cell}
-use Rattle.gh_base.specs.declared.cell.Cell.TheVariants.{Touch, Gcur, Buffer, Scanned}
-use Rattle.gh_base.specs.declared.cell.Ask.{Ask}
-use Rattle.gh_base.specs.declared.cell.Ask.TheVariants.{Load}
-use Rattle.gh_base.specs.declared.layout.Layout.{Layout}
-use Rattle.gh_base.specs.declared.pack.BufferWord.{BufferWord}
-use Rattle.gh_base.specs.Cells.{buffers_of}
-use Rattle.gh_base.specs.Footprints.{Footprint}
-use Rattle.gh_base.specs.Machines.{Listing}
-use Rattle.gh_base.specs.Packing.{buffer_of}
+use Rattle.gh_coord.specs.Vocabulary.{All, Ask, Buffer, buffer_of, buffers_of, BufferWord, Cell, Footprint, Gcur, Layout, Listing, Load, NotYet, Scanned, Touch, Watched}
 use Rattle.gh_coord.specs.declared.watch.Watch.{Watch}
-use Rattle.gh_coord.specs.declared.watch.Watched.{Watched}
-use Rattle.gh_coord.specs.declared.watch.Watched.TheVariants.{All, NotYet}
 use Rattle.gh_coord.specs.declared.watch.WatchStage.{WatchStage}
 use Rattle.gh_coord.specs.declared.watch.WatchStage.TheVariants.{Look, Ended}
 

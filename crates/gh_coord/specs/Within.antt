@@ -1,12 +1,10 @@
 -- Whatever the coordinator is told, each of its steps is on a word that there is.
 use Rattle.std.specs.Prelude.{ℕ, ◌^◌, ◌<◌}
-use Rattle.gh_base.specs.declared.layout.Layout.{Layout}
-use Rattle.gh_base.specs.Cells.{InRange}
+use Rattle.gh_coord.specs.Vocabulary.{CoordStage, InRange, Layout, Sweep}
 use Rattle.gh_base.specs.Steps.{cell_of}
 use Rattle.gh_coord.specs.Listing.{asks, Coordinating, goes, opening}
 use Rattle.gh_coord.specs.Sound.{SoundStage}
 use Rattle.gh_coord.specs.SweepingAll.{IsAtPage}
-use Rattle.gh_coord.specs.Vocabulary.{CoordStage, Sweep}
 
 -- of the sweep the page alone: what a sweep has counted it knows only by words of 64 bits
 abbrev pub StandsAt : Layout → CoordStage → Type 0

@@ -1,12 +1,7 @@
 -- Drawing on the bank: what is asked for at each stage, where that leads, and how many words are taken.
 use Rattle.std.specs.Prelude.{◌≡◌, ◌≢◌, ◌↔◌, ℕ, ◌-◌, ◌≤◌, ◌==◌, if◌then◌else◌, Bool, true, false, Option, Some, None, is_none, min}
-use Rattle.gh_base.specs.declared.cell.Ask.{Ask}
-use Rattle.gh_base.specs.declared.cell.Ask.TheVariants as ask
-use Rattle.gh_base.specs.declared.cell.Cell.TheVariants.{Bank, Touch}
-use Rattle.gh_base.specs.declared.layout.Layout.{Layout}
-use Rattle.gh_base.specs.Footprints.{Footprint}
+use Rattle.gh_credit.specs.Vocabulary.{Ask, Bank, Footprint, Layout, Listing, Touch}
 use Rattle.gh_base.specs.Footprints as row
-use Rattle.gh_base.specs.Machines.{Listing}
 use Rattle.gh_credit.specs.declared.draw.Draw.{Draw}
 use Rattle.gh_credit.specs.declared.draw.DrawStage.{DrawStage}
 use Rattle.gh_credit.specs.declared.draw.DrawStage.TheVariants.{LoadBank, Swap, Ended}
@@ -23,9 +18,9 @@ abbrev pub most_drawn : Drawing → (bank : ℕ) → ℕ
 most_drawn d bank = min bank d.owed
 
 abbrev pub asks_at : Drawing → DrawStage → Ask
-asks_at d LoadBank = ask.Load Bank
-asks_at d (Swap bank) = ask.Swap Bank bank (bank - most_drawn d bank)
-asks_at d (Ended drawn) = ask.Load Touch
+asks_at d LoadBank = Ask.Load Bank
+asks_at d (Swap bank) = Ask.Swap Bank bank (bank - most_drawn d bank)
+asks_at d (Ended drawn) = Ask.Load Touch
 
 -- where none is to be taken it ends
 abbrev pub after_load : Drawing → (bank : ℕ) → DrawStage
@@ -68,18 +63,18 @@ listing l = record { asks = asks; goes = goes; given = given; sound = λ d. Unit
 
 -- the words that a step takes out of the bank: by a swap that wrote, those that the word is less by then
 abbrev pub drawn_by : Ask → (found : ℕ) → ℕ
-drawn_by (ask.Swap Bank old new) found = if found == old then old - new else 0
+drawn_by (Ask.Swap Bank old new) found = if found == old then old - new else 0
 drawn_by _ found = 0
 
 -- a step that writes no bank, or takes words out of it by a swap
 abbrev pub LeavesOrDraws : Ask → Type 0
-LeavesOrDraws (ask.Load c) = Unit {0}
-LeavesOrDraws (ask.Swap Bank old new) = new ≤ old
-LeavesOrDraws (ask.Swap c old new) = Unit {0}
-LeavesOrDraws (ask.Store c value) = c ≢ Bank
-LeavesOrDraws (ask.Or c bits) = c ≢ Bank
-LeavesOrDraws (ask.And c bits) = c ≢ Bank
-LeavesOrDraws (ask.Add c more) = c ≢ Bank
+LeavesOrDraws (Ask.Load c) = Unit {0}
+LeavesOrDraws (Ask.Swap Bank old new) = new ≤ old
+LeavesOrDraws (Ask.Swap c old new) = Unit {0}
+LeavesOrDraws (Ask.Store c value) = c ≢ Bank
+LeavesOrDraws (Ask.Or c bits) = c ≢ Bank
+LeavesOrDraws (Ask.And c bits) = c ≢ Bank
+LeavesOrDraws (Ask.Add c more) = c ≢ Bank
 
 -- the words of what is given, if anything is
 abbrev pub words_given : Option ℕ → ℕ

@@ -1,12 +1,7 @@
 -- Handing scanned words over to the bank: what is asked for at each stage, where that leads, and when it has ended.
 use Rattle.std.specs.Prelude.{◌≢◌, ℕ, Bool, true, false, Option, Some, None, is_none}
-use Rattle.gh_base.specs.declared.cell.Ask.{Ask}
-use Rattle.gh_base.specs.declared.cell.Ask.TheVariants as ask
-use Rattle.gh_base.specs.declared.cell.Cell.TheVariants.{Bank, Touch}
-use Rattle.gh_base.specs.declared.layout.Layout.{Layout}
-use Rattle.gh_base.specs.Footprints.{Footprint}
+use Rattle.gh_credit.specs.Vocabulary.{Ask, Bank, Footprint, Layout, Listing, Touch}
 use Rattle.gh_base.specs.Footprints as row
-use Rattle.gh_base.specs.Machines.{Listing}
 use Rattle.gh_base.specs.Steps.{cell_of}
 use Rattle.gh_credit.specs.declared.earn.Earn.{Earn}
 use Rattle.gh_credit.specs.declared.earn.EarnStage.{EarnStage}
@@ -19,8 +14,8 @@ abbrev pub opening : (words : ℕ) → Earning
 opening words = record { words = words; stage = Add }
 
 abbrev pub asks_at : Earning → EarnStage → Ask
-asks_at e Add = ask.Add Bank e.words
-asks_at e Ended = ask.Load Touch
+asks_at e Add = Ask.Add Bank e.words
+asks_at e Ended = Ask.Load Touch
 
 -- it has ended once the words are added
 abbrev pub given_at : EarnStage → Option (Unit {0})
@@ -51,11 +46,11 @@ listing l = record { asks = asks; goes = goes; given = given; sound = λ e. Unit
 
 -- the words that a step hands over
 abbrev pub handed_by : Ask → ℕ
-handed_by (ask.Add Bank more) = more
+handed_by (Ask.Add Bank more) = more
 handed_by _ = 0
 
 -- a step that writes no bank, or writes it by adding to it
 abbrev pub LeavesOrAdds : Ask → Type 0
-LeavesOrAdds (ask.Load c) = Unit {0}
-LeavesOrAdds (ask.Add c more) = Unit {0}
+LeavesOrAdds (Ask.Load c) = Unit {0}
+LeavesOrAdds (Ask.Add c more) = Unit {0}
 LeavesOrAdds step = cell_of step ≢ Bank

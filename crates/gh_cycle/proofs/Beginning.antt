@@ -1,20 +1,7 @@
 -- Where a cycle begins: the state of marking, made of what a script reaches.
 use Rattle.std.proofs.Common.{◌≡◌, ℕ, ◌+◌, ◌-◌, ◌*◌, ◌%◌, ◌<◌, ◌≤◌, Bool, true, false, cond, ltb, inl, inr, refl, sym, ap, subst, arith, ◌∙◌}
-use Rattle.std.proofs.lemmas.Bool.Decides.{eqb_tells}
 use Rattle.std.proofs.lemmas.Bool.{ltb-true, ltb-false}
-use Rattle.std.proofs.lemmas.Nat.Bits.{bit_at-zero}
-use Rattle.gh_base.specs.declared.cell.Cell.TheVariants as cell
-use Rattle.gh_base.specs.declared.pack.TheConstants.{END}
-use Rattle.gh_base.specs.Rows.{alloc_words, mark_words, row_bit}
-use Rattle.gh_model.specs.declared.EverValue.TheVariants as ever
-use Rattle.gh_model.specs.Ever.{from_field, from_global, from_register}
-use Rattle.gh_heap.specs.Objects.{IsMade}
-use Rattle.gh_marks.specs.Colours.{Extents, Untouched, White}
-use Rattle.gh_marks.specs.Ends.{Opens}
-use Rattle.gh_cycle.specs.Marked.{OpenedRegistersFit}
-use Rattle.gh_cycle.specs.Opening.{CyclesOpen, OpenedHeapsAreAtRest, WordsAreAtRest, IsCycleOf, IsOpened, reference_of, register_for_marking}
-use Rattle.gh_cycle.specs.Reached.{Decided, IsBounded, IsReachedAt, PlacesAreDecided, TheReachedWereMade}
-use Rattle.gh_cycle.specs.Vocabulary.{Name, Words, EverValue, Reach, TheHeapIsApart, Holds, Place, points, shape_for, size_for, Arena, Good, view, Heap, Cycle, IsPointer, IsSince, Marking}
+use Rattle.gh_cycle.proofs.Vocabulary.{alloc_words, Arena, bit_at-zero, Cell, Cycle, CyclesOpen, Decided, END, eqb_tells, EverValue, Extents, from_field, from_global, from_register, Good, Heap, Holds, IsBounded, IsCycleOf, IsMade, IsOpened, IsPointer, IsReachedAt, IsSince, mark_words, Marking, Name, OpenedHeapsAreAtRest, OpenedRegistersFit, Opens, Place, PlacesAreDecided, points, Reach, reference_of, register_for_marking, row_bit, shape_for, size_for, TheHeapIsApart, TheReachedWereMade, Untouched, view, White, Words, WordsAreAtRest}
 
 -- no bit is set in a row of words that are 0
 no-bit : (o : ℕ) → row_bit (λ i. 0) o ≡ 0
@@ -24,18 +11,18 @@ no-bit o = bit_at-zero (o % 64)
 pub opened-at-rest : OpenedHeapsAreAtRest
 opened-at-rest z trigger number h some same = record {
   marks = λ o. ap (λ (w : Words). row_bit (mark_words w) o) same ∙ no-bit o;
-  buffers = λ b. ap (λ (w : Words). w (cell.Buffer b)) same;
-  cursor = ap (λ (w : Words). w cell.Gcur) same;
-  scanned = λ g. inl (subst (λ (n : ℕ). n < number) (sym (ap (λ (w : Words). w (cell.Scanned g)) same)) some);
-  over = λ g e. absurd (let zero = ap (λ (w : Words). w (cell.Scanned g)) same in omega (arith, zero, e));
-  none = λ i l. ap (λ (w : Words). w (cell.Global i)) same;
+  buffers = λ b. ap (λ (w : Words). w (Cell.Buffer b)) same;
+  cursor = ap (λ (w : Words). w Cell.Gcur) same;
+  scanned = λ g. inl (subst (λ (n : ℕ). n < number) (sym (ap (λ (w : Words). w (Cell.Scanned g)) same)) some);
+  over = λ g e. absurd (let zero = ap (λ (w : Words). w (Cell.Scanned g)) same in omega (arith, zero, e));
+  none = λ i l. ap (λ (w : Words). w (Cell.Global i)) same;
 }
 
 -- a word of the heap names what the value names
-pub names-it : (place : Place) (made : ℕ → ℕ) (v : EverValue) (word o : ℕ) → Holds place made true v word → word ≡ o + 1 → (n : Name) × (v ≡ ever.Ref n) × (place n ≡ o)
+pub names-it : (place : Place) (made : ℕ → ℕ) (v : EverValue) (word o : ℕ) → Holds place made true v word → word ≡ o + 1 → (n : Name) × (v ≡ EverValue.Ref n) × (place n ≡ o)
 names-it place made v word o holds is = grind arith
 
-pub names-reference : (place : Place) (v : EverValue) (o : ℕ) → reference_of place v ≡ o + 1 → (n : Name) × (v ≡ ever.Ref n) × (place n ≡ o)
+pub names-reference : (place : Place) (v : EverValue) (o : ℕ) → reference_of place v ≡ o + 1 → (n : Name) × (v ≡ EverValue.Ref n) × (place n ≡ o)
 names-reference place v o is = grind arith
 
 module _ (z : Arena) (h : Heap) (g : Good z (view h)) (b : IsBounded z h.ever) (made : TheReachedWereMade) where
@@ -43,19 +30,19 @@ module _ (z : Arena) (h : Heap) (g : Good z (view h)) (b : IsBounded z h.ever) (
   is-made = made z h.ever b
 
   -- what a pointer field of an object of the cycle names is one, in any state of marking of this heap
-  pub fields-since : (s : Marking) → IsCycleOf z h s → (o k : ℕ) → s.since o ≡ true → IsPointer s.extents o k → IsSince s.since (h.words (cell.Field (o + k)))
-  fields-since s c o k known = let w = (c.since o).0 known in subst (λ (a : ℕ). IsPointer s.extents a k → IsSince s.since (h.words (cell.Field (a + k)))) w.2 (at w.0 w.1) where
-    at : (n : Name) → Reach h.ever n → IsPointer s.extents (h.place n) k → IsSince s.since (h.words (cell.Field (h.place n + k)))
+  pub fields-since : (s : Marking) → IsCycleOf z h s → (o k : ℕ) → s.since o ≡ true → IsPointer s.extents o k → IsSince s.since (h.words (Cell.Field (o + k)))
+  fields-since s c o k known = let w = (c.since o).0 known in subst (λ (a : ℕ). IsPointer s.extents a k → IsSince s.since (h.words (Cell.Field (a + k)))) w.2 (at w.0 w.1) where
+    at : (n : Name) → Reach h.ever n → IsPointer s.extents (h.place n) k → IsSince s.since (h.words (Cell.Field (h.place n + k)))
     at n r l x is =
         let within : k < size_for z.shapes h.ever.type_of n = subst (λ (i : ℕ). k < i) (c.size n r) l.0 in
         let pointer : points z.shapes h.ever.type_of n k ≡ true = sym (c.pointer n k r within) ∙ l.1 in
-        let holds = subst (λ (t : Bool). Holds h.place h.ever.made t (h.ever.field n k) (h.words (cell.Field (h.place n + k)))) pointer (g.fields n k (is-made n r) (g.reached n r) within) in
-        let m = names-it h.place h.ever.made (h.ever.field n k) (h.words (cell.Field (h.place n + k))) x holds is in
+        let holds = subst (λ (t : Bool). Holds h.place h.ever.made t (h.ever.field n k) (h.words (Cell.Field (h.place n + k)))) pointer (g.fields n k (is-made n r) (g.reached n r) within) in
+        let m = names-it h.place h.ever.made (h.ever.field n k) (h.words (Cell.Field (h.place n + k))) x holds is in
         (c.since x).1 (m.0, from_field n k m.0 r m.1, m.2)
 
-  pub globals-since : (s : Marking) → IsCycleOf z h s → (i : ℕ) → i < z.layout.globals → IsSince s.since (h.words (cell.Global i))
+  pub globals-since : (s : Marking) → IsCycleOf z h s → (i : ℕ) → i < z.layout.globals → IsSince s.since (h.words (Cell.Global i))
   globals-since s c i l x is =
-      let m = names-it h.place h.ever.made (h.ever.global i) (h.words (cell.Global i)) x (g.globals i l) is in
+      let m = names-it h.place h.ever.made (h.ever.global i) (h.words (Cell.Global i)) x (g.globals i l) is in
       (c.since x).1 (m.0, from_global i m.0 m.1, m.2)
 
   pub registers-since : (s : Marking) → IsCycleOf z h s → (j d : ℕ) → IsSince s.since (register_for_marking h j d)
@@ -108,13 +95,13 @@ module _ (z : Cycle) (h : Heap) (g : Good z.arena (view h)) (b : IsBounded z.are
   of-heap = grind (arith, name-is)
 
   -- all globals, those beyond the last one too
-  globals : (i : ℕ) → IsSince d.test (h.words (cell.Global i))
+  globals : (i : ℕ) → IsSince d.test (h.words (Cell.Global i))
   globals i x is = by (ltb i z.arena.layout.globals) refl where
     by : (t : Bool) → ltb i z.arena.layout.globals ≡ t → d.test x ≡ true
     by true e = globals-since z.arena h g b made marking of-heap i (ltb-true _ _ e) x is
     by false e = absurd (omega (arith, rest.none i (ltb-false _ _ e), is))
 
-  ended : (j c : ℕ) → h.words (cell.Scanned j) ≡ END → register_for_marking h j c ≡ 0
+  ended : (j c : ℕ) → h.words (Cell.Scanned j) ≡ END → register_for_marking h j c ≡ 0
   ended j c e = rw (rest.over j e) refl
 
   -- each object of the cycle has a slot, and that lies in the heap

@@ -1,22 +1,10 @@
 -- In the heap that never frees, what names an object is one of the places that the heap has, and the object was made.
-use Rattle.std.proofs.Common.{◌≡◌, ℕ, ◌+◌, ◌<◌, ◌≤◌, ◌⊎◌, Bool, true, false, cond, eqb, inl, inr, refl, sym, subst, arith}
-use Rattle.std.specs.Prelude.{◌&&◌}
+use Rattle.std.proofs.Common.{◌≡◌, ℕ, ◌+◌, ◌<◌, ◌≤◌, ◌⊎◌, Bool, true, false, cond, eqb, inl, inr, refl, sym, subst, arith, ◌&&◌}
 use Rattle.std.proofs.lemmas.Bool.{eqb-true, eq-eqb}
-use Rattle.std.proofs.lemmas.Bool.Decides.{eqb_tells, nat_tests}
-use Rattle.gh_base.specs.declared.limits.TheConstants.{REGISTERS}
+use Rattle.gh_cycle.proofs.Vocabulary.{answer_of, answer_of_value, Arena, BoundsLast, eqb_tells, Ever, ever_after, EverValue, field_count, first_value, fits, has_field, is_number, is_pointer, is_pointer_field, IsBounded, IsInRange, IsMade, load_answer, Name, nat_tests, next_name, opening_ever, REGISTERS, same_name, sets_global, shape_at, size_for, store_answer, stores_value, takes_answer, with_end, with_field, with_global, with_object, with_register}
 use Rattle.gh_base.specs.declared.operation.Op.{Op}
-use Rattle.gh_base.specs.declared.operation.Op.TheVariants as op
 use Rattle.gh_base.specs.declared.value.Answer.{Answer}
-use Rattle.gh_base.specs.declared.value.Answer.TheVariants as answer
-use Rattle.gh_base.specs.declared.value.Fault.TheVariants as fault
-use Rattle.gh_base.specs.declared.value.Name.{Name}
-use Rattle.gh_base.specs.Shapes.{is_pointer, shape_at}
-use Rattle.gh_model.specs.declared.EverValue.{EverValue}
-use Rattle.gh_model.specs.declared.EverValue.TheVariants as ever
-use Rattle.gh_model.specs.Ever.{Ever, answer_of, ever_after, field_count, first_value, fits, has_field, is_number, is_pointer_field, load_answer, next_name, opening_ever, same_name, sets_global, store_answer, stores_value, takes_answer, answer_of_value, with_end, with_field, with_global, with_object, with_register}
-use Rattle.gh_heap.specs.Objects.{IsMade, size_for}
-use Rattle.gh_heap.specs.Rights.{Arena}
-use Rattle.gh_cycle.specs.Reached.{BoundsLast, IsBounded, IsInRange}
+use Rattle.gh_base.specs.declared.value.Fault.{Fault}
 use Rattle.gh_cycle.proofs.Reaching.{name-tells}
 
 -- both tests of two pass
@@ -30,17 +18,17 @@ bounded-opening z = record { registers = λ g d n e. absurd (cc); globals = λ k
 more-made : (made : ℕ → ℕ) (g : ℕ) (n : Name) → IsMade made n → n.k < cond (eqb n.g g) (made g + 1) (made n.g)
 more-made made g n h = grind arith
 
-first-plain : (b : Bool) (n : Name) → first_value b ≡ ever.Ref n → ⊥
+first-plain : (b : Bool) (n : Name) → first_value b ≡ EverValue.Ref n → ⊥
 first-plain b n e = grind arith
 
 -- a value that names nothing, or an object that was made
 abbrev Made : Ever → EverValue → Type 0
-Made e x = (n : Name) → x ≡ ever.Ref n → IsMade e.made n
+Made e x = (n : Name) → x ≡ EverValue.Ref n → IsMade e.made n
 
 module _ (z : Arena) (e : Ever) (h : IsBounded z e) where
   register : (g d : ℕ) (x : EverValue) → g < z.layout.goroutines → d < REGISTERS → Made e x → IsBounded z (with_register e g d x)
   register g d x lg ld made = record { registers = λ k c n. by k c n (eqb k g && eqb c d) refl; globals = h.globals; fields = h.fields; none = h.none } where
-    by : (k c : ℕ) (n : Name) (b : Bool) → (eqb k g && eqb c d) ≡ b → cond b x (e.register k c) ≡ ever.Ref n → (k < z.layout.goroutines) × (c < REGISTERS) × IsMade e.made n
+    by : (k c : ℕ) (n : Name) (b : Bool) → (eqb k g && eqb c d) ≡ b → cond b x (e.register k c) ≡ EverValue.Ref n → (k < z.layout.goroutines) × (c < REGISTERS) × IsMade e.made n
     by k c n true t is =
         let w = both (eqb k g) (eqb c d) t in
         (subst (λ (i : ℕ). i < z.layout.goroutines) (sym (eqb-true k g w.0)) lg, subst (λ (i : ℕ). i < REGISTERS) (sym (eqb-true c d w.1)) ld, made n is)
@@ -48,7 +36,7 @@ module _ (z : Arena) (e : Ever) (h : IsBounded z e) where
 
   field : (m : Name) (k : ℕ) (x : EverValue) → k < size_for z.shapes e.type_of m → Made e x → IsBounded z (with_field e m k x)
   field m k x within made = record { registers = h.registers; globals = h.globals; fields = λ o c n. by o c n (same_name o m && eqb c k) refl; none = h.none } where
-    by : (o : Name) (c : ℕ) (n : Name) (b : Bool) → (same_name o m && eqb c k) ≡ b → cond b x (e.field o c) ≡ ever.Ref n → (c < size_for z.shapes e.type_of o) × IsMade e.made n
+    by : (o : Name) (c : ℕ) (n : Name) (b : Bool) → (same_name o m && eqb c k) ≡ b → cond b x (e.field o c) ≡ EverValue.Ref n → (c < size_for z.shapes e.type_of o) × IsMade e.made n
     by o c n true t is =
         let w = both (same_name o m) (eqb c k) t in
         let here : c < size_for z.shapes e.type_of m = subst (λ (i : ℕ). i < size_for z.shapes e.type_of m) (sym (eqb-true c k w.1)) within in
@@ -57,7 +45,7 @@ module _ (z : Arena) (e : Ever) (h : IsBounded z e) where
 
   global : (k : ℕ) (x : EverValue) → k < z.layout.globals → Made e x → IsBounded z (with_global e k x)
   global k x within made = record { registers = h.registers; globals = λ c n. by c n (eqb c k) refl; fields = h.fields; none = h.none } where
-    by : (c : ℕ) (n : Name) (b : Bool) → eqb c k ≡ b → cond b x (e.global c) ≡ ever.Ref n → (c < z.layout.globals) × IsMade e.made n
+    by : (c : ℕ) (n : Name) (b : Bool) → eqb c k ≡ b → cond b x (e.global c) ≡ EverValue.Ref n → (c < z.layout.globals) × IsMade e.made n
     by c n true t is = (subst (λ (i : ℕ). i < z.layout.globals) (sym (eqb-true c k t)) within, made n is)
     by c n false t is = h.globals c n is
 
@@ -71,7 +59,7 @@ module _ (z : Arena) (e : Ever) (h : IsBounded z e) where
     fields = λ m k n. by m k n (same_name m (next_name e g));
     none = λ k l. beyond k l (eqb_tells k g);
   } where
-    by : (m : Name) (k : ℕ) (n : Name) (b : Bool) → cond b (first_value (is_pointer (shape_at z.shapes t) k)) (e.field m k) ≡ ever.Ref n → (k < field_count (shape_at z.shapes (cond b t (e.type_of m)))) × (n.k < cond (eqb n.g g) (e.made g + 1) (e.made n.g))
+    by : (m : Name) (k : ℕ) (n : Name) (b : Bool) → cond b (first_value (is_pointer (shape_at z.shapes t) k)) (e.field m k) ≡ EverValue.Ref n → (k < field_count (shape_at z.shapes (cond b t (e.type_of m)))) × (n.k < cond (eqb n.g g) (e.made g + 1) (e.made n.g))
     by m k n true is = absurd (first-plain (is_pointer (shape_at z.shapes t) k) n is)
     by m k n false is = let w = h.fields m k n is in (w.0, more-made e.made g n w.1)
 
@@ -86,53 +74,53 @@ module _ (z : Arena) (e : Ever) (h : IsBounded z e) where
   takes g d x lg ld made = grind (arith, register)
 
   loads : (g d : ℕ) (x : EverValue) (k : ℕ) → g < z.layout.goroutines → d < REGISTERS → IsBounded z (takes_answer e g d (load_answer z.shapes e x k))
-  loads g d ever.Nil k lg ld = h
-  loads g d (ever.Int i) k lg ld = h
-  loads g d (ever.Ref m) k lg ld = by (has_field z.shapes e m k) where
-    by : (b : Bool) → IsBounded z (takes_answer e g d (cond b (answer_of_value (e.field m k)) (answer.Fault fault.Field)))
+  loads g d EverValue.Nil k lg ld = h
+  loads g d (EverValue.Int i) k lg ld = h
+  loads g d (EverValue.Ref m) k lg ld = by (has_field z.shapes e m k) where
+    by : (b : Bool) → IsBounded z (takes_answer e g d (cond b (answer_of_value (e.field m k)) (Answer.Fault Fault.Field)))
     by true = takes g d (e.field m k) lg ld (λ n is. (h.fields m k n is).1)
     by false = h
 
   stores : (x : EverValue) (k : ℕ) (v : EverValue) → Made e v → IsBounded z (stores_value e x k v (store_answer z.shapes e x k v))
-  stores ever.Nil k v made = h
-  stores (ever.Int i) k v made = h
-  stores (ever.Ref m) k v made = by (has_field z.shapes e m k) refl (fits (is_pointer_field z.shapes e m k) v) where
-    by : (b : Bool) → has_field z.shapes e m k ≡ b → (c : Bool) → IsBounded z (stores_value e (ever.Ref m) k v (cond b (cond c answer.Done (answer.Fault fault.Kind)) (answer.Fault fault.Field)))
+  stores EverValue.Nil k v made = h
+  stores (EverValue.Int i) k v made = h
+  stores (EverValue.Ref m) k v made = by (has_field z.shapes e m k) refl (fits (is_pointer_field z.shapes e m k) v) where
+    by : (b : Bool) → has_field z.shapes e m k ≡ b → (c : Bool) → IsBounded z (stores_value e (EverValue.Ref m) k v (cond b (cond c Answer.Done (Answer.Fault Fault.Kind)) (Answer.Fault Fault.Field)))
     by true t true = field z e h m k v (grind (arith, nat_tests)) made
     by true t false = h
     by false t c = h
 
-  sets : (k : ℕ) (v : EverValue) → k < z.layout.globals → Made e v → IsBounded z (sets_global e k v (cond (is_number v) (answer.Fault fault.Kind) answer.Done))
+  sets : (k : ℕ) (v : EverValue) → k < z.layout.globals → Made e v → IsBounded z (sets_global e k v (cond (is_number v) (Answer.Fault Fault.Kind) Answer.Done))
   sets k v within made = by (is_number v) where
-    by : (b : Bool) → IsBounded z (sets_global e k v (cond b (answer.Fault fault.Kind) answer.Done))
+    by : (b : Bool) → IsBounded z (sets_global e k v (cond b (Answer.Fault Fault.Kind) Answer.Done))
     by true = h
     by false = global z e h k v within made
 
-  news : (g d t : ℕ) → g < z.layout.goroutines → d < REGISTERS → IsBounded z (with_register (with_object z.shapes e g t) g d (ever.Ref (next_name e g)))
-  news g d t lg ld = register z (with_object z.shapes e g t) (object z e h g t lg) g d (ever.Ref (next_name e g)) lg ld (λ n is. here n is) where
-    here : (n : Name) → ever.Ref (next_name e g) ≡ ever.Ref n → n.k < cond (eqb n.g g) (e.made g + 1) (e.made n.g)
+  news : (g d t : ℕ) → g < z.layout.goroutines → d < REGISTERS → IsBounded z (with_register (with_object z.shapes e g t) g d (EverValue.Ref (next_name e g)))
+  news g d t lg ld = register z (with_object z.shapes e g t) (object z e h g t lg) g d (EverValue.Ref (next_name e g)) lg ld (λ n is. here n is) where
+    here : (n : Name) → EverValue.Ref (next_name e g) ≡ EverValue.Ref n → n.k < cond (eqb n.g g) (e.made g + 1) (e.made n.g)
     here n is =
         let same : next_name e g ≡ n = cc in
         subst (λ (m : Name). m.k < cond (eqb m.g g) (e.made g + 1) (e.made m.g)) same (subst (λ (b : Bool). e.made g < cond b (e.made g + 1) (e.made g)) (sym (eq-eqb g g refl)) (omega arith))
 
   -- what is answered as that heap answers it, or `full`
-  answered : (o : Op) (full : Bool) → IsInRange z o → IsBounded z (ever_after z.shapes e o (cond full answer.Full (answer_of z.shapes e o)))
-  answered (op.New g d t) true r = register z e h g d ever.Nil r.0 r.1 (λ n is. absurd (cc))
-  answered (op.New g d t) false r = news g d t r.0 r.1
-  answered (op.Load g d b k) false r = loads g d (e.register g b) k r.0 r.1
-  answered (op.Store g b k v) true r = full-store (e.register g b) where
-    full-store : (x : EverValue) → IsBounded z (stores_value e x k (e.register g v) answer.Full)
+  answered : (o : Op) (full : Bool) → IsInRange z o → IsBounded z (ever_after z.shapes e o (cond full Answer.Full (answer_of z.shapes e o)))
+  answered (Op.New g d t) true r = register z e h g d EverValue.Nil r.0 r.1 (λ n is. absurd (cc))
+  answered (Op.New g d t) false r = news g d t r.0 r.1
+  answered (Op.Load g d b k) false r = loads g d (e.register g b) k r.0 r.1
+  answered (Op.Store g b k v) true r = full-store (e.register g b) where
+    full-store : (x : EverValue) → IsBounded z (stores_value e x k (e.register g v) Answer.Full)
     full-store x = grind arith
-  answered (op.Store g b k v) false r = stores (e.register g b) k (e.register g v) (λ n is. (h.registers g v n is).2)
-  answered (op.GetGlobal g d k) false r = takes g d (e.global k) r.0 r.1 (λ n is. (h.globals k n is).1)
-  answered (op.SetGlobal g k v) false r = sets k (e.register g v) r.1 (λ n is. (h.registers g v n is).2)
-  answered (op.Int g d i) full r = register z e h g d (ever.Int i) r.0 r.1 (λ n is. absurd (cc))
-  answered (op.Move g d c) full r = register z e h g d (e.register g c) r.0 r.1 (λ n is. (h.registers g c n is).2)
-  answered (op.Nil g d) full r = register z e h g d ever.Nil r.0 r.1 (λ n is. absurd (cc))
-  answered (op.Gc g) full r = h
-  answered op.Poll full r = h
-  answered (op.End g) full r = end z e h g
-  answered op.Leave full r = h
+  answered (Op.Store g b k v) false r = stores (e.register g b) k (e.register g v) (λ n is. (h.registers g v n is).2)
+  answered (Op.GetGlobal g d k) false r = takes g d (e.global k) r.0 r.1 (λ n is. (h.globals k n is).1)
+  answered (Op.SetGlobal g k v) false r = sets k (e.register g v) r.1 (λ n is. (h.registers g v n is).2)
+  answered (Op.Int g d i) full r = register z e h g d (EverValue.Int i) r.0 r.1 (λ n is. absurd (cc))
+  answered (Op.Move g d c) full r = register z e h g d (e.register g c) r.0 r.1 (λ n is. (h.registers g c n is).2)
+  answered (Op.Nil g d) full r = register z e h g d EverValue.Nil r.0 r.1 (λ n is. absurd (cc))
+  answered (Op.Gc g) full r = h
+  answered Op.Poll full r = h
+  answered (Op.End g) full r = end z e h g
+  answered Op.Leave full r = h
   answered _ true r = h
 
 pub bounds-last : BoundsLast

@@ -1,18 +1,11 @@
 -- What has become of a heap since a cycle began in it: how it begins, that it lasts, and what is marked at the end.
 use Rattle.std.proofs.Common.{◌≡◌, ℕ, suc, true, cond, Bool, sym, ap, subst, ◌∙◌, inl, inr, arith, Some}
-use Rattle.std.proofs.lemmas.Bool.{cases_Bool}
-use Rattle.std.proofs.lemmas.Bool.Decides.{eqb_tells}
-use Rattle.gh_model.specs.Ever.{next_name}
+use Rattle.gh_cycle.proofs.Vocabulary.{alloc_words, birth_word, birth_words, cases_Bool, Cycle, eqb_tells, Ever, Good, Heap, IsMade, IsOfCycle, Marking, MarkingGood, Name, name_made, next_name, Placed, Reach, row_bit, RowsAreWritten, TheHeapIsApart, TheReachedWereMade, View, view, Words}
 use Rattle.gh_heap.specs.Laws as heap_laws
-use Rattle.gh_heap.specs.Laws.{name_made}
 use Rattle.gh_heap.specs.Moves as heap
-use Rattle.gh_marks.specs.Good.{Good as MarkingGood}
 use Rattle.gh_marks.specs.Laws as marks_laws
 use Rattle.gh_marks.specs.Moves as marks
-use Rattle.gh_cycle.specs.Beside.{IsOfCycle}
-use Rattle.gh_cycle.specs.Reached.{TheReachedWereMade}
 use Rattle.gh_cycle.specs.Since.{CyclesBeginSo, HasGoneOn, TheMarkedWereReached, WhatHasGoneOnLasts}
-use Rattle.gh_cycle.specs.Vocabulary.{alloc_words, birth_word, birth_words, Cycle, Ever, Good, Heap, IsMade, Marking, Name, Placed, Reach, row_bit, RowsAreWritten, TheHeapIsApart, view, View, Words}
 use Rattle.gh_cycle.proofs.Bits.{zero_one}
 use Rattle.gh_cycle.proofs.Marked.{marked-since}
 use Rattle.gh_cycle.proofs.Quiet.{quiet_view}

@@ -1,17 +1,7 @@
 -- What the words of the heap say of an object: the page in which it begins, its size and whether its type is noscan.
 use Rattle.std.proofs.Common.{◌≡◌, ◌≢◌, ℕ, ◌+◌, ◌*◌, ◌/◌, ◌-◌, ◌<◌, ◌≤◌, ◌⊎◌, true, cond, inl, inr, refl, sym, ap, subst, arith, ◌∙◌}
-use Rattle.std.proofs.lemmas.Bool.Decides.{eqb_tells}
-use Rattle.gh_base.specs.declared.pack.PageWord.TheVariants as page
-use Rattle.gh_base.specs.declared.pack.SpanHead.{SpanHead}
-use Rattle.gh_base.specs.Packing.{bit, page_noscan, page_of, slot_for, slot_in}
-use Rattle.gh_base.specs.Rows.{Row, bitmap_words, page_words}
-use Rattle.gh_class.specs.declared.class.SizeClass.{SizeClass}
-use Rattle.gh_class.specs.declared.class.SizeClass.TheVariants as size
-use Rattle.gh_class.specs.Classes.{IsSizeClass, slot_of, slots_of}
-use Rattle.gh_heap.specs.Spans.{IsSlotOf, body_at, is_own_class, number_of_class}
+use Rattle.gh_cycle.proofs.Vocabulary.{alloc_words, Arena, birth_words, bit, bitmap_words, body_at, eqb_tells, Good, Heap, is_own_class, IsBeside, IsMade, IsSizeClass, IsSlotOf, Marking, Name, number_of_class, ObjectsAreKnownBeside, page_noscan, page_of, page_words, PageWord, Placed, Row, size_for, SizeClass, slot_for, slot_in, slot_of, slots_of, SpanHead, TheHeapIsApart, view, Words}
 use Rattle.gh_marks.specs.Knows.{KnowsObject, KnowsObjects}
-use Rattle.gh_cycle.specs.Beside.{IsBeside, ObjectsAreKnownBeside}
-use Rattle.gh_cycle.specs.Vocabulary.{alloc_words, birth_words, IsMade, Name, Placed, Words, TheHeapIsApart, size_for, Arena, Good, view, Heap, Marking}
 use Rattle.gh_cycle.proofs.Going.Objects.{here, name-at}
 use Rattle.gh_cycle.proofs.Quiet.{with_words}
 use Rattle.gh_cycle.proofs.Said.{IsSaid, said-beside}
@@ -23,7 +13,7 @@ LeastSlot = (c : ℕ) → c < 25 → 8 ≤ slot_of c
 slot-of-class : (c : SizeClass) (k : ℕ) → slot_for c k ≡ cond (is_own_class c) (1024 * k) (slot_of (number_of_class c) / 8)
 slot-of-class c k = grind arith
 
-slot-of-small : (c : SizeClass) (k : ℕ) → c ≢ size.Large → slot_for c 1 ≡ cond (is_own_class c) (1024 * k) (slot_of (number_of_class c) / 8)
+slot-of-small : (c : SizeClass) (k : ℕ) → c ≢ SizeClass.Large → slot_for c 1 ≡ cond (is_own_class c) (1024 * k) (slot_of (number_of_class c) / 8)
 slot-of-small c k ne = grind arith
 
 some-slot : LeastSlot → (c : SizeClass) (k : ℕ) → IsSizeClass c → 1 ≤ k → 1 ≤ cond (is_own_class c) (1024 * k) (slot_of (number_of_class c) / 8)
@@ -32,16 +22,16 @@ some-slot least c k below some = grind arith
 -- the page in which a slot begins is the span's first, or a further one, and then its objects are not large
 module _ (pages : ℕ) (row : Row) (p : ℕ) (h : SpanHead) (i a n : ℕ) (o : IsSlotOf pages row p h i a n) (low : 1024 * p ≤ a) (high : a < 1024 * (p + h.pages)) where
   abbrev IsFurther : Type 0
-  IsFurther = (d : ℕ) × (h.class ≢ size.Large) × (page_of (row (a / 1024)) ≡ page.Body (body_at h d))
+  IsFurther = (d : ℕ) × (h.class ≢ SizeClass.Large) × (page_of (row (a / 1024)) ≡ PageWord.Body (body_at h d))
 
-  large-first : h.class ≡ size.Large → a / 1024 ≡ p
+  large-first : h.class ≡ SizeClass.Large → a / 1024 ≡ p
   large-first large =
       let few : i < 1 = subst (λ (c : SizeClass). i < cond (is_own_class c) 1 (slots_of (number_of_class c))) large o.inside in
       let first : i ≡ 0 = omega (arith, few) in
       let at : a ≡ 1024 * p + 0 * n = o.at ∙ ap (λ (j : ℕ). 1024 * p + j * n) first in
       omega (arith, at)
 
-  page-read : (page_of (row (a / 1024)) ≡ page.Head h) ⊎ IsFurther
+  page-read : (page_of (row (a / 1024)) ≡ PageWord.Head h) ⊎ IsFurther
   page-read = elim (eqb_tells (a / 1024) p) [
     | inl y ↦ inl (ap (λ (q : ℕ). page_of (row q)) y.1 ∙ o.span.head)
     | inr x ↦

@@ -1,23 +1,9 @@
 -- What is marked at the end of a cycle.
 use Rattle.std.proofs.Common.{◌≡◌, ◌≢◌, ℕ, ◌+◌, ◌/◌, ◌%◌, ◌<◌, Bool, true, false, eqb, ltb, List, [], length, inl, inr, refl, sym, ap, subst, arith, ◌∙◌}
 use Rattle.std.specs.Int.{bit_at}
-use Rattle.std.proofs.lemmas.Bool.{cases_Bool, ltb-true, ltb-false}
+use Rattle.std.proofs.lemmas.Bool.{ltb-true, ltb-false}
 use Rattle.std.proofs.lemmas.List.{get_or_past}
-use Rattle.std.proofs.lemmas.Nat.Bits.{bit_at-zero}
-use Rattle.gh_base.specs.declared.cell.Cell.TheVariants as cell
-use Rattle.gh_base.specs.declared.shape.Shape.{Shape}
-use Rattle.gh_base.specs.Shapes.{FitsShape, ShapesFit, is_pointer, no_shape, shape_at}
-use Rattle.gh_model.specs.declared.EverValue.TheVariants as ever
-use Rattle.gh_model.specs.Ever.{from_field, from_global, from_register}
-use Rattle.gh_marks.specs.Colours.{Placing}
-use Rattle.gh_marks.specs.Ends.{Reached}
-use Rattle.gh_marks.specs.Ends.{from_field as path_field, from_global as path_global, from_register as path_register}
-use Rattle.gh_marks.specs.Good.{Good as MarkingGood}
-use Rattle.gh_cycle.specs.Beside.{TheMarkedStand, TheReachedAreMarkedBeside}
-use Rattle.gh_cycle.specs.Marked.{RegistersFit}
-use Rattle.gh_cycle.specs.Opening.{reference_of}
-use Rattle.gh_cycle.specs.Reached.{IsBounded, TheReachedWereMade}
-use Rattle.gh_cycle.specs.Vocabulary.{alloc_words, row_bit, Name, Words, EverValue, Reach, Holds, Place, points, Good, view, Heap, Cycle, IsMarked, IsPointer, mark_words, Marking}
+use Rattle.gh_cycle.proofs.Vocabulary.{alloc_words, bit_at-zero, cases_Bool, Cell, Cycle, EverValue, FitsShape, from_field, from_global, from_register, Good, Heap, Holds, is_pointer, IsBounded, IsMarked, IsPointer, mark_words, Marking, MarkingGood, Name, no_shape, path_field, path_global, path_register, Place, Placing, points, Reach, Reached, reference_of, RegistersFit, row_bit, Shape, shape_at, ShapesFit, TheMarkedStand, TheReachedAreMarkedBeside, TheReachedWereMade, view, Words}
 use Rattle.gh_cycle.proofs.Said.{IsSaid, said-beside}
 
 -- a bit of no word is not set
@@ -43,7 +29,7 @@ pointing-scans shapes fit t k pointer = by (ltb t (length shapes)) refl where
 -- At the end.
 
 -- a word that holds a reference
-holds-name : (place : Place) (made : ℕ → ℕ) (p : Bool) (v : EverValue) (n : Name) (word : ℕ) → v ≡ ever.Ref n → Holds place made p v word → (p ≡ true) × (word ≡ place n + 1)
+holds-name : (place : Place) (made : ℕ → ℕ) (p : Bool) (v : EverValue) (n : Name) (word : ℕ) → v ≡ EverValue.Ref n → Holds place made p v word → (p ≡ true) × (word ≡ place n + 1)
 holds-name place made p v n word is holds = let w = subst (λ (x : EverValue). Holds place made p x word) is holds in (w.0, w.1)
 
 module _ (z : Cycle) (h : Heap) (s : Marking) (g : Good z.arena (view h)) (fit : ShapesFit z.arena.shapes) (b : IsBounded z.arena h.ever) (same : s.words ≡ h.words) (said : (n : Name) → Reach h.ever n → IsSaid z.arena h s n) (registers : RegistersFit z.arena h s) (made : TheReachedWereMade) where
@@ -51,20 +37,20 @@ module _ (z : Cycle) (h : Heap) (s : Marking) (g : Good z.arena (view h)) (fit :
   path : (n : Name) → Reach h.ever n → Reached z s (h.place n)
   path n (from_global k n' is) =
       let within = (b.globals k n is).0 in
-      let w = holds-name h.place h.ever.made true (h.ever.global k) n (h.words (cell.Global k)) is (g.globals k within) in
-      path_global k (h.place n) within (ap (λ (u : Words). u (cell.Global k)) same ∙ w.1)
+      let w = holds-name h.place h.ever.made true (h.ever.global k) n (h.words (Cell.Global k)) is (g.globals k within) in
+      path_global k (h.place n) within (ap (λ (u : Words). u (Cell.Global k)) same ∙ w.1)
   path n (from_register j d n' runs is) =
       let w = b.registers j d n is in
       path_register j d (h.place n) w.0 w.1 (registers j d w.0 w.1 runs ∙ ap (reference_of h.place) is)
   path n (from_field m k n' r is) =
       let within = (b.fields m k n is).0 in
-      let w = holds-name h.place h.ever.made (points z.arena.shapes h.ever.type_of m k) (h.ever.field m k) n (h.words (cell.Field (h.place m + k))) is (g.fields m k (made z.arena h.ever b m r) (g.reached m r) within) in
+      let w = holds-name h.place h.ever.made (points z.arena.shapes h.ever.type_of m k) (h.ever.field m k) n (h.words (Cell.Field (h.place m + k))) is (g.fields m k (made z.arena h.ever b m r) (g.reached m r) within) in
       let pointer : IsPointer s.extents (h.place m) k = (
         subst (λ (x : ℕ). k < x) (sym (said m r).size) within,
         (said m r).pointer k within ∙ w.0,
         (said m r).noscan ∙ pointing-scans z.arena.shapes fit (h.ever.type_of m) k w.0,
       ) in
-      path_field (h.place m) k (h.place n) (path m r) pointer (ap (λ (u : Words). u (cell.Field (h.place m + k))) same ∙ w.1)
+      path_field (h.place m) k (h.place n) (path m r) pointer (ap (λ (u : Words). u (Cell.Field (h.place m + k))) same ∙ w.1)
 
 pub reached-marked-beside : TheReachedWereMade → TheReachedAreMarkedBeside
 reached-marked-beside made z h s g fit b c each n r =

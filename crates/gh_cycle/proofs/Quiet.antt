@@ -1,12 +1,6 @@
 -- A step that no right guards leaves what is said of the heap.
 use Rattle.std.proofs.Common.{◌≡◌, ℕ, arith}
-use Rattle.gh_base.specs.declared.cell.Ask.{Ask}
-use Rattle.gh_base.specs.declared.cell.Cell.{Cell}
-use Rattle.gh_base.specs.Cells.{put, Words}
-use Rattle.gh_base.specs.Steps.{effect}
-use Rattle.gh_heap.specs.Moves.{IsAside, IsQuiet}
-use Rattle.gh_heap.specs.Rights.{view}
-use Rattle.gh_heap.specs.Rights.{Shared as Heap}
+use Rattle.gh_cycle.proofs.Vocabulary.{Ask, Cell, effect, Heap, IsAside, IsQuiet, put, view, Words}
 
 -- the heap with other words
 abbrev pub with_words : Heap → Words → Heap

@@ -1,7 +1,6 @@
 -- What marking says of the words of an object is what its type says, while processors go on beside it.
 use Rattle.std.proofs.Common.{◌≡◌, ℕ, ◌<◌}
-use Rattle.gh_cycle.specs.Beside.{IsBeside, IsOfCycle}
-use Rattle.gh_cycle.specs.Vocabulary.{Arena, Heap, Marking, Name, points, shape_for, size_for}
+use Rattle.gh_cycle.proofs.Vocabulary.{Arena, Heap, IsBeside, IsOfCycle, Marking, Name, points, shape_for, size_for}
 
 pub record IsSaid (z : Arena) (h : Heap) (s : Marking) (n : Name) : Type 0 where
   pub size : s.extents.size (h.place n) ≡ size_for z.shapes h.ever.type_of n

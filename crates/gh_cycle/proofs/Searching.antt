@@ -1,8 +1,6 @@
 -- Searches below a bound, a count that goes down while a search goes on, and tests made of what is found.
-use Rattle.std.proofs.Common.{◌≡◌, ℕ, zero, suc, ◌+◌, ◌<◌, ◌≤◌, ◌⊎◌, Bool, true, false, sym, subst, arith, inl, inr}
-use Rattle.std.specs.Prelude.{◌↔◌}
-use Rattle.std.proofs.lemmas.Bool.Decides.{eqb_tells}
-use Rattle.gh_cycle.specs.Reached.{Decided}
+use Rattle.std.proofs.Common.{◌≡◌, ℕ, zero, suc, ◌+◌, ◌<◌, ◌≤◌, ◌⊎◌, Bool, true, false, sym, subst, arith, inl, inr, ◌↔◌}
+use Rattle.gh_cycle.proofs.Vocabulary.{Decided, eqb_tells}
 
 -- what is looked for is found, or each number below the bound has what it has where it is not found there
 pub search : {W : Type 0} (bound : ℕ) (Q : ℕ → Type 0) → ((i : ℕ) → W ⊎ Q i) → W ⊎ ((i : ℕ) → i < bound → Q i)

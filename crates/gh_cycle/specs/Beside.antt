@@ -1,20 +1,13 @@
 -- While a cycle is marked processors go on. What holds of the heap and of marking together then, and what steps leave of it.
 use Rattle.std.specs.Prelude.{◌≡◌, ◌≢◌, ℕ, ◌+◌, ◌<◌, true, false}
-use Rattle.gh_base.specs.declared.cell.Ask.TheVariants as ask
-use Rattle.gh_base.specs.declared.cell.Cell.TheVariants as cell
-use Rattle.gh_base.specs.declared.limits.TheConstants.{REGISTERS}
-use Rattle.gh_base.specs.declared.pack.TheConstants.{END}
+use Rattle.gh_cycle.specs.Vocabulary.{alloc_words, Arena, Ask, birth_words, Cell, Claims, Cycle, EachReachedIsMarked, END, Good, Heap, IsMade, IsMarked, mark_words, Marking, MarkingGood, Name, Placed, Placing, points, Reach, REGISTERS, row_bit, shape_for, size_for, View, view}
 use Rattle.gh_base.specs.Shapes.{ShapesFit}
 use Rattle.gh_heap.specs.Moves as heap
-use Rattle.gh_heap.specs.Rights.{Claims}
-use Rattle.gh_marks.specs.Ends.{EachReachedIsMarked}
-use Rattle.gh_marks.specs.Good.{Good as MarkingGood}
 use Rattle.gh_marks.specs.Knows.{KnowsObjects}
 use Rattle.gh_marks.specs.Moves as marks
 use Rattle.gh_cycle.specs.Marked.{RegistersFit}
 use Rattle.gh_cycle.specs.Opening.{IsCycleOf, RegistersAre, WordsAreAtRest}
 use Rattle.gh_cycle.specs.Reached.{IsBounded}
-use Rattle.gh_cycle.specs.Vocabulary.{alloc_words, Arena, birth_words, Cycle, Good, Heap, IsMade, IsMarked, mark_words, Marking, Name, Placed, Placing, points, Reach, row_bit, shape_for, size_for, view, View}
 
 -- the object was made, stands, and is one of the cycle
 pub record IsOfCycle (h : Heap) (s : Marking) (n : Name) : Type 0 where
@@ -37,7 +30,7 @@ pub record IsBeside (z : Arena) (h : Heap) (s : Marking) : Type 0 where
   pub filling : (o a : ℕ) → s.colour o ≡ Placing a → ClaimsSlot z (view h) a o
   pub registers : RegistersFit z h s
   -- the word of a stack says that its goroutine has ended only where it has
-  pub goes_on : (g : ℕ) → g < z.layout.goroutines → h.ever.ended g ≡ false → s.words (cell.Scanned g) ≢ END
+  pub goes_on : (g : ℕ) → g < z.layout.goroutines → h.ever.ended g ≡ false → s.words (Cell.Scanned g) ≢ END
 
 -- so it is where a cycle begins
 abbrev pub CyclesBeginBeside : Type 0
@@ -59,7 +52,7 @@ SlotsAreReserved = (z : Cycle) (a at size : ℕ) (h : Heap) (s : Marking) → Go
 
 -- A field of a claimed slot is none that marking reads: no object of the cycle has a word there.
 abbrev pub ClaimedFieldsAreAside : Type 0
-ClaimedFieldsAreAside = (z : Cycle) (a at size k : ℕ) (h : Heap) (s : Marking) → Good z.arena (view h) → MarkingGood z s → IsBeside z.arena h s → Claims z.arena (view h) a at size → k < size → marks.IsQuietInMarking s (ask.Store (cell.Field (at + k)) 0)
+ClaimedFieldsAreAside = (z : Cycle) (a at size k : ℕ) (h : Heap) (s : Marking) → Good z.arena (view h) → MarkingGood z s → IsBeside z.arena h s → Claims z.arena (view h) a at size → k < size → marks.IsQuietInMarking s (Ask.Store (Cell.Field (at + k)) 0)
 
 -- The steps of marking.
 
@@ -69,7 +62,7 @@ pub record MarksAlone (z : Cycle) (a : ℕ) (h k : Heap) (s t : Marking) : Type 
   pub words_are : t.words ≡ k.words
   pub fills : (o : ℕ) → t.colour o ≡ Placing a → ClaimsSlot z.arena (view k) a o
   pub registers : (g d : ℕ) → heap.GoroutineRuns z.arena (view h) a g → d < REGISTERS → t.registers g d ≡ s.registers g d
-  pub goes_on : (g : ℕ) → heap.GoroutineRuns z.arena (view h) a g → t.words (cell.Scanned g) ≢ END
+  pub goes_on : (g : ℕ) → heap.GoroutineRuns z.arena (view h) a g → t.words (Cell.Scanned g) ≢ END
 
 -- Over the heap such a step may be any move of its seat that leaves the heap that never frees as it is: a span may be given back by it, and no object is made.
 abbrev pub MarkingAloneGoesBeside : Type 0

@@ -1,5 +1,5 @@
 -- What the laws of lower crates say, as far as those on processors that go on beside marking use it.
-use Rattle.gh_base.specs.Rows.{RowsAreWritten}
+use Rattle.gh_cycle.specs.Vocabulary.{RowsAreWritten}
 use Rattle.gh_heap.specs.Laws as heap
 use Rattle.gh_marks.specs.Laws as marks
 use Rattle.gh_cycle.specs.Reached.{TheReachedWereMade}

@@ -1,9 +1,6 @@
 -- What the heap and marking are to each other while a cycle is marked: of registers.
 use Rattle.std.specs.Prelude.{◌≡◌, ℕ, ◌<◌, false}
-use Rattle.gh_base.specs.declared.limits.TheConstants.{REGISTERS}
-use Rattle.gh_heap.specs.Rights.{Arena}
-use Rattle.gh_heap.specs.Rights.{Shared as Heap}
-use Rattle.gh_marks.specs.Colours.{Shared as Marking}
+use Rattle.gh_cycle.specs.Vocabulary.{Arena, Heap, Marking, REGISTERS}
 use Rattle.gh_cycle.specs.Opening.{RegistersAre, reference_of}
 
 -- the registers of goroutines that go on are as marking has them

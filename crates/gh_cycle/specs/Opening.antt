@@ -1,30 +1,18 @@
 -- Where a cycle begins: the state of the heap, and that of marking as it is switched on.
 use Rattle.std.specs.Prelude.{◌≡◌, ℕ, ◌+◌, ◌<◌, ◌≤◌, ◌⊎◌, ◌↔◌, true, if◌then◌else◌}
-use Rattle.gh_base.specs.declared.cell.Cell.TheVariants as cell
-use Rattle.gh_base.specs.declared.pack.TheConstants.{END}
-use Rattle.gh_base.specs.declared.value.Name.{Name}
+use Rattle.gh_cycle.specs.Vocabulary.{Arena, Cell, Cycle, END, EverValue, Good, Heap, mark_words, Marking, Name, Opens, Place, points, Reach, row_bit, shape_for, size_for, view}
 use Rattle.gh_base.specs.Cells.{opening_words}
-use Rattle.gh_base.specs.Rows.{mark_words, row_bit}
-use Rattle.gh_model.specs.declared.EverValue.{EverValue}
-use Rattle.gh_model.specs.declared.EverValue.TheVariants as values
-use Rattle.gh_model.specs.Ever.{Reach}
-use Rattle.gh_heap.specs.Objects.{Place, points, shape_for, size_for}
-use Rattle.gh_heap.specs.Rights.{Arena, Good, view}
-use Rattle.gh_heap.specs.Rights.{Shared as Heap}
-use Rattle.gh_marks.specs.Colours.{Cycle}
-use Rattle.gh_marks.specs.Colours.{Shared as Marking}
-use Rattle.gh_marks.specs.Ends.{Opens}
 use Rattle.gh_cycle.specs.Reached.{IsBounded, IsReachedAt}
 
 -- The words as they are where the cycle of this number begins: no mark is set, no buffer is held or filled, the cursor is at the first global, and the word of each stack is that of a cycle before, or says that its goroutine has ended.
 pub record WordsAreAtRest (z : Arena) (number : ℕ) (h : Heap) : Type 0 where
   pub marks : (o : ℕ) → row_bit (mark_words h.words) o ≡ 0
-  pub buffers : (b : ℕ) → h.words (cell.Buffer b) ≡ 0
-  pub cursor : h.words cell.Gcur ≡ 0
-  pub scanned : (g : ℕ) → (h.words (cell.Scanned g) < number) ⊎ (h.words (cell.Scanned g) ≡ END)
-  pub over : (g : ℕ) → h.words (cell.Scanned g) ≡ END → h.ever.ended g ≡ true
+  pub buffers : (b : ℕ) → h.words (Cell.Buffer b) ≡ 0
+  pub cursor : h.words Cell.Gcur ≡ 0
+  pub scanned : (g : ℕ) → (h.words (Cell.Scanned g) < number) ⊎ (h.words (Cell.Scanned g) ≡ END)
+  pub over : (g : ℕ) → h.words (Cell.Scanned g) ≡ END → h.ever.ended g ≡ true
   -- there is no global beyond these that names an object
-  pub none : (i : ℕ) → z.layout.globals ≤ i → h.words (cell.Global i) ≡ 0
+  pub none : (i : ℕ) → z.layout.globals ≤ i → h.words (Cell.Global i) ≡ 0
 
 -- A heap that was just opened is so before its first cycle.
 abbrev pub OpenedHeapsAreAtRest : Type 0
@@ -40,7 +28,7 @@ pub record IsCycleOf (z : Arena) (h : Heap) (s : Marking) : Type 0 where
 
 -- what a value names, as 0 or 1 more than a heap word
 abbrev pub reference_of : Place → EverValue → ℕ
-reference_of place (values.Ref n) = place n + 1
+reference_of place (EverValue.Ref n) = place n + 1
 reference_of place _ = 0
 
 -- what marking reads of a register: that of a goroutine which has ended names nothing

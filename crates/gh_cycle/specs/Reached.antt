@@ -1,21 +1,14 @@
 -- What a script reaches, as a test: a heap names finitely many objects, so it is decided.
 use Rattle.std.specs.Prelude.{◌≡◌, ℕ, ◌<◌, ◌≤◌, ◌⊎◌, ◌↔◌, Bool, true}
-use Rattle.gh_base.specs.declared.limits.TheConstants.{REGISTERS}
+use Rattle.gh_cycle.specs.Vocabulary.{answer_of, Arena, Ever, ever_after, EverValue, IsMade, Name, opening_ever, Reach, REGISTERS, Shared, size_for}
 use Rattle.gh_base.specs.declared.operation.Op.{Op}
-use Rattle.gh_base.specs.declared.operation.Op.TheVariants as op
 use Rattle.gh_base.specs.declared.value.Answer.{Answer}
-use Rattle.gh_base.specs.declared.value.Answer.TheVariants as answers
-use Rattle.gh_base.specs.declared.value.Name.{Name}
-use Rattle.gh_model.specs.declared.EverValue.TheVariants as values
-use Rattle.gh_model.specs.Ever.{Ever, Reach, answer_of, ever_after, opening_ever}
-use Rattle.gh_heap.specs.Objects.{IsMade, size_for}
-use Rattle.gh_heap.specs.Rights.{Arena, Shared}
 
 -- Each goroutine, register, global and field that names an object is one that the heap has, and the object was made. So there are finitely many to look at.
 pub record IsBounded (z : Arena) (e : Ever) : Type 0 where
-  pub registers : (g d : ℕ) (n : Name) → e.register g d ≡ values.Ref n → (g < z.layout.goroutines) × (d < REGISTERS) × IsMade e.made n
-  pub globals : (k : ℕ) (n : Name) → e.global k ≡ values.Ref n → (k < z.layout.globals) × IsMade e.made n
-  pub fields : (m : Name) (k : ℕ) (n : Name) → e.field m k ≡ values.Ref n → (k < size_for z.shapes e.type_of m) × IsMade e.made n
+  pub registers : (g d : ℕ) (n : Name) → e.register g d ≡ EverValue.Ref n → (g < z.layout.goroutines) × (d < REGISTERS) × IsMade e.made n
+  pub globals : (k : ℕ) (n : Name) → e.global k ≡ EverValue.Ref n → (k < z.layout.globals) × IsMade e.made n
+  pub fields : (m : Name) (k : ℕ) (n : Name) → e.field m k ≡ EverValue.Ref n → (k < size_for z.shapes e.type_of m) × IsMade e.made n
   -- there is no goroutine beyond these that has made one
   pub none : (g : ℕ) → z.layout.goroutines ≤ g → e.made g ≡ 0
 
@@ -40,20 +33,20 @@ TheReachedWereMade = (z : Arena) (e : Ever) → IsBounded z e → (n : Name) →
 
 -- the operation's goroutine, registers and global are ones that the heap has
 abbrev pub IsInRange : Arena → Op → Type 0
-IsInRange z (op.New g d t) = (g < z.layout.goroutines) × (d < REGISTERS)
-IsInRange z (op.Load g d b k) = (g < z.layout.goroutines) × (d < REGISTERS) × (b < REGISTERS)
-IsInRange z (op.Store g b k v) = (g < z.layout.goroutines) × (b < REGISTERS) × (v < REGISTERS)
-IsInRange z (op.GetGlobal g d k) = (g < z.layout.goroutines) × (d < REGISTERS) × (k < z.layout.globals)
-IsInRange z (op.SetGlobal g k v) = (g < z.layout.goroutines) × (k < z.layout.globals) × (v < REGISTERS)
-IsInRange z (op.Int g d n) = (g < z.layout.goroutines) × (d < REGISTERS)
-IsInRange z (op.Move g d s) = (g < z.layout.goroutines) × (d < REGISTERS) × (s < REGISTERS)
-IsInRange z (op.Nil g d) = (g < z.layout.goroutines) × (d < REGISTERS)
-IsInRange z (op.Gc g) = g < z.layout.goroutines
-IsInRange z (op.End g) = g < z.layout.goroutines
-IsInRange z op.Poll = Unit {0}
-IsInRange z op.Leave = Unit {0}
+IsInRange z (Op.New g d t) = (g < z.layout.goroutines) × (d < REGISTERS)
+IsInRange z (Op.Load g d b k) = (g < z.layout.goroutines) × (d < REGISTERS) × (b < REGISTERS)
+IsInRange z (Op.Store g b k v) = (g < z.layout.goroutines) × (b < REGISTERS) × (v < REGISTERS)
+IsInRange z (Op.GetGlobal g d k) = (g < z.layout.goroutines) × (d < REGISTERS) × (k < z.layout.globals)
+IsInRange z (Op.SetGlobal g k v) = (g < z.layout.goroutines) × (k < z.layout.globals) × (v < REGISTERS)
+IsInRange z (Op.Int g d n) = (g < z.layout.goroutines) × (d < REGISTERS)
+IsInRange z (Op.Move g d s) = (g < z.layout.goroutines) × (d < REGISTERS) × (s < REGISTERS)
+IsInRange z (Op.Nil g d) = (g < z.layout.goroutines) × (d < REGISTERS)
+IsInRange z (Op.Gc g) = g < z.layout.goroutines
+IsInRange z (Op.End g) = g < z.layout.goroutines
+IsInRange z Op.Poll = Unit {0}
+IsInRange z Op.Leave = Unit {0}
 
 -- A heap opens so, and so it is after each operation in range, answered as the heap that never frees answers it, or `full`.
 pub record BoundsLast : Type 0 where
   pub opening : (z : Arena) → IsBounded z opening_ever
-  pub after : (z : Arena) (e : Ever) (o : Op) (a : Answer) → IsBounded z e → IsInRange z o → (a ≡ answer_of z.shapes e o) ⊎ (a ≡ answers.Full) → IsBounded z (ever_after z.shapes e o a)
+  pub after : (z : Arena) (e : Ever) (o : Op) (a : Answer) → IsBounded z e → IsInRange z o → (a ≡ answer_of z.shapes e o) ⊎ (a ≡ Answer.Full) → IsBounded z (ever_after z.shapes e o a)

@@ -1,12 +1,11 @@
 -- What has become of a heap since a cycle began in it: what a script lost then, and what is of the cycle.
 use Rattle.std.specs.Prelude.{◌≡◌, ◌≢◌, ℕ}
+use Rattle.gh_cycle.specs.Vocabulary.{alloc_words, birth_words, Cycle, Ever, Good, Heap, IsMade, IsMarked, mark_words, Marking, MarkingGood, Name, Placed, Placing, Reach, view}
 use Rattle.gh_heap.specs.Moves as heap
-use Rattle.gh_marks.specs.Good.{Good as MarkingGood}
 use Rattle.gh_marks.specs.Moves as marks
 use Rattle.gh_cycle.specs.Beside.{IsOfCycle}
 use Rattle.gh_cycle.specs.Opening.{IsCycleOf}
 use Rattle.gh_cycle.specs.Reached.{IsBounded}
-use Rattle.gh_cycle.specs.Vocabulary.{alloc_words, birth_words, Cycle, Ever, Good, Heap, IsMade, IsMarked, mark_words, Marking, Name, Placed, Placing, Reach, view}
 
 -- The heap and marking now, and the heap that never frees as it was where the cycle began. What was made by then is made still, and what no script reached of it then none reaches now. Of what is of the cycle now, a script reached then whatever had been made by then: so all else of the cycle was made since.
 pub record HasGoneOn (began : Ever) (h : Heap) (s : Marking) : Type 0 where

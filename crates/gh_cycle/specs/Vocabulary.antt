@@ -1,20 +1,15 @@
--- The names that files with many imports share.
-pub use Rattle.gh_base.specs.Cells.{put, Words}
-pub use Rattle.gh_base.specs.Packing.{birth_word}
-pub use Rattle.gh_base.specs.Rows.{alloc_words, birth_words, mark_words, page_words, Row, row_bit, RowsAreWritten}
-pub use Rattle.gh_base.specs.Steps.{effect}
+-- The names that several files of specs/ share.
+pub use Rattle.gh_base.specs.Rows.{alloc_words, birth_words, field_words, global_words, mark_words, RowsAreWritten}
+unfoldable pub use Rattle.gh_base.specs.Rows.{row_bit}
 pub use Rattle.gh_base.specs.declared.cell.Ask.{Ask}
-pub use Rattle.gh_base.specs.declared.pack.PageWord.{PageWord}
-pub use Rattle.gh_base.specs.declared.pack.PageWord.TheVariants.{Body, Free, Head}
-pub use Rattle.gh_base.specs.declared.pack.SpanHead.{SpanHead}
+pub use Rattle.gh_base.specs.declared.cell.Cell.{Cell}
+pub use Rattle.gh_base.specs.declared.limits.TheConstants.{REGISTERS}
+pub use Rattle.gh_base.specs.declared.pack.TheConstants.{END}
 pub use Rattle.gh_base.specs.declared.value.Name.{Name}
-pub use Rattle.gh_class.specs.Classes.{slot_of}
-pub use Rattle.gh_model.specs.Ever.{Ever, Reach}
+pub use Rattle.gh_heap.specs.Objects.{IsMade, Place, Placed, points, shape_for, size_for}
+pub use Rattle.gh_heap.specs.Rights.{Arena, Claims, Good, Shared, Shared as Heap, View, view}
+pub use Rattle.gh_marks.specs.Colours.{Cycle, IsClean, IsMarked, Placing, Shared as Marking}
+pub use Rattle.gh_marks.specs.Ends.{EachReachedIsMarked, Opens}
+pub use Rattle.gh_marks.specs.Good.{Good as MarkingGood}
+pub use Rattle.gh_model.specs.Ever.{answer_of, Ever, ever_after, next_name, opening_ever, Reach, with_end, with_field, with_global, with_object, with_register}
 pub use Rattle.gh_model.specs.declared.EverValue.{EverValue}
-pub use Rattle.gh_heap.specs.Laws.{TheHeapIsApart}
-pub use Rattle.gh_heap.specs.Objects.{Holds, IsMade, Place, Placed, points, shape_for, size_for}
-pub use Rattle.gh_heap.specs.Rights.{Arena, Good, view, View}
-pub use Rattle.gh_heap.specs.Rights.{Shared as Heap}
-pub use Rattle.gh_heap.specs.Spans.{IsSpan, owner_at}
-pub use Rattle.gh_marks.specs.Colours.{Cycle, IsMarked, IsPointer, IsSince, Placing}
-pub use Rattle.gh_marks.specs.Colours.{Shared as Marking}

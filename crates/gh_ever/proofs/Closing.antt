@@ -1,14 +1,8 @@
 -- What the code leaves in a `Kept` is sound.
 use Rattle.std.proofs.Common.{◌≡◌, ℕ, ◌+◌, ◌-◌, ◌<◌, ◌≤◌, Bool, cond, List, [], ◌∷◌, ◌++◌, length, get_or, Option, Some, None, sym, ◌∙◌, ap, subst, arith, sum, vec_len, vec_capacity, Vec, HashMap, BuildHasherDefault, FoldHasher, Global}
-use Rattle.std.specs.HashMap.{get, spare}
 use Rattle.std.specs.Vec.{with_item}
 use Rattle.std.proofs.lemmas.List.{get_or_read}
-use Rattle.gh_model.specs.declared.EverValue.TheVariants as values
-use Rattle.gh_ever.specs.declared.cell.Cell.{Cell}
-use Rattle.gh_ever.specs.declared.kept.Kept.TheInside.{Inside}
-use Rattle.gh_ever.specs.Found.{FindsCells, same_pair}
-use Rattle.gh_ever.specs.Inside.{lists_of, IsSound}
-use Rattle.gh_ever.proofs.Vocabulary.{ever_of, EverValue, IsInKnown, IsKnown, kind_of, Lists, Name, next_name, Object, Place, put_value, Register, same_name, set, Sound, spent, with_object, with_register, with_value}
+use Rattle.gh_ever.proofs.Vocabulary.{Cell, ever_of, EverValue, FindsCells, get, Inside, IsInKnown, IsKnown, IsSound, kind_of, Lists, lists_of, Name, next_name, Object, Place, put_value, Register, same_name, same_pair, set, Sound, spare, spent, with_object, with_register, with_value}
 use Rattle.gh_ever.proofs.Writing.{ever-with_cell, sound_put, sound_spend, sum-spent}
 use Rattle.gh_ever.proofs.Making.{ever-new, fresh-next, fresh_unmade, kind_of-push, sound_new}
 use Rattle.gh_ever.proofs.Places.{name_turned}
@@ -41,21 +35,21 @@ write_sound a cells places g n p x s h due e f room len finds uses inside known 
   fewer = ap (λ (l : List ℕ). sum l + 1) (lowered a.left.items g n h e) ∙ sum-spent a.left.items g h due
 
 pub make_after : (v : Lists) (cells : List Cell) (left : List ℕ) (objects : List Object) (m g d t : ℕ) (n : Name) → Sound v → g < length v.left → n ≡ next_name (ever_of v) g → m ≡ get_or v.made g m →
-    objects ≡ v.objects ++ record { name = n; kind = t } ∷ [] → cells ≡ put_value v.cells (Register g d) (values.Ref n) →
-    ever_of (record v { made = set v.made g (m + 1); objects = objects; cells = cells; left = left }) ≡ with_register (with_object v.shapes (ever_of v) g t) g d (values.Ref n)
+    objects ≡ v.objects ++ record { name = n; kind = t } ∷ [] → cells ≡ put_value v.cells (Register g d) (EverValue.Ref n) →
+    ever_of (record v { made = set v.made g (m + 1); objects = objects; cells = cells; left = left }) ≡ with_register (with_object v.shapes (ever_of v) g t) g d (EverValue.Ref n)
 make_after v cells left objects m g d t n s h named e o c =
     ap (λ (cs : List Cell). ever_of (record v { made = set v.made g (m + 1); objects = objects; cells = cs; left = left })) c
-    ∙ ap (λ (os : List Object). ever_of (record v { made = set v.made g (m + 1); objects = os; cells = put_value v.cells (Register g d) (values.Ref n); left = left })) o
-    ∙ ap (λ (ms : List ℕ). ever_of (record v { made = ms; objects = v.objects ++ record { name = n; kind = t } ∷ []; cells = put_value v.cells (Register g d) (values.Ref n); left = left })) (raised v.made g m within e)
-    ∙ subst (λ (x : Name). ever_of (record v { made = set v.made g (get_or v.made g 0 + 1); objects = v.objects ++ record { name = x; kind = t } ∷ []; cells = put_value v.cells (Register g d) (values.Ref x); left = left })
-    ≡ with_register (with_object v.shapes (ever_of v) g t) g d (values.Ref x)) (sym (named ∙ fresh-next v g)) (ever-new v g d t left s h ∙ ap (λ (x : Name). with_register (with_object v.shapes (ever_of v) g t) g d (values.Ref x)) (fresh-next v g)) where
+    ∙ ap (λ (os : List Object). ever_of (record v { made = set v.made g (m + 1); objects = os; cells = put_value v.cells (Register g d) (EverValue.Ref n); left = left })) o
+    ∙ ap (λ (ms : List ℕ). ever_of (record v { made = ms; objects = v.objects ++ record { name = n; kind = t } ∷ []; cells = put_value v.cells (Register g d) (EverValue.Ref n); left = left })) (raised v.made g m within e)
+    ∙ subst (λ (x : Name). ever_of (record v { made = set v.made g (get_or v.made g 0 + 1); objects = v.objects ++ record { name = x; kind = t } ∷ []; cells = put_value v.cells (Register g d) (EverValue.Ref x); left = left })
+    ≡ with_register (with_object v.shapes (ever_of v) g t) g d (EverValue.Ref x)) (sym (named ∙ fresh-next v g)) (ever-new v g d t left s h ∙ ap (λ (x : Name). with_register (with_object v.shapes (ever_of v) g t) g d (EverValue.Ref x)) (fresh-next v g)) where
       within : g < length v.made
       within = omega (arith, s.counted)
 
 pub make_sound : (a : Inside) (cells : Vec Cell Global) (places : HashMap Place ℕ (BuildHasherDefault FoldHasher)) (objects : Vec Object Global) (kinds : HashMap (ℕ × ℕ) ℕ (BuildHasherDefault FoldHasher)) (m g i d t : ℕ) (n : Name) → IsSound a → g < length a.left.items → 0 < get_or a.left.items g 0 → t < length a.shapes → n ≡ next_name (ever_of (lists_of a)) g →
     m ≡ get_or a.made.items g m → i ≡ get_or a.left.items g i →
     objects.items ≡ a.objects.items ++ record { name = n; kind = t } ∷ [] → vec_capacity objects ≡ vec_capacity a.objects → vec_len objects ≡ vec_len a.objects + 1 →
-    cells.items ≡ put_value a.cells.items (Register g d) (values.Ref n) → vec_capacity cells ≡ vec_capacity a.cells → vec_len cells ≤ vec_len a.cells + 1 →
+    cells.items ≡ put_value a.cells.items (Register g d) (EverValue.Ref n) → vec_capacity cells ≡ vec_capacity a.cells → vec_len cells ≤ vec_len a.cells + 1 →
     FindsCells places cells.items → spare a.places ≤ spare places + 1 →
     ((q : ℕ × ℕ) → get same_pair kinds q ≡ cond (same_pair (n.g, n.k) q) (Some t) (get same_pair a.kinds q)) → spare a.kinds ≤ spare kinds + 1 →
     IsSound (record a { left = with_item a.left g (i - 1); made = with_item a.made g (m + 1); objects = objects; kinds = kinds; cells = cells; places = places })

@@ -1,15 +1,8 @@
 -- The lists before any statement.
 use Rattle.std.proofs.Common.{◌≡◌, ℕ, ◌<◌, ◌≤◌, ◌^◌, false, List, [], length, get_or, replicate, refl, sym, ◌∙◌, ap, arith, inl, inr, sum, vec_len, vec_capacity}
-use Rattle.std.specs.HashMap.{spare}
-use Rattle.std.specs.List.{All}
-use Rattle.std.proofs.lemmas.Bool.{cases_lt}
-use Rattle.std.proofs.lemmas.List.{length-replicate, get_or-replicate, get_or_past}
+use Rattle.std.proofs.lemmas.List.{length-replicate, get_or-replicate}
+use Rattle.gh_ever.proofs.Vocabulary.{All, AreSized, cases_lt, ever_of, get_or_past, Inside, IsSound, opening_ever, opening_lists, spare}
 use Rattle.gh_base.specs.declared.shape.Shape.{Shape}
-use Rattle.gh_model.specs.Ever.{opening_ever}
-use Rattle.gh_ever.specs.declared.kept.Kept.TheInside.{Inside}
-use Rattle.gh_ever.specs.Lists.{ever_of, opening_lists}
-use Rattle.gh_ever.specs.Sound.{AreSized}
-use Rattle.gh_ever.specs.Inside.{IsSound}
 use Rattle.gh_ever.proofs.Same.{same_ever}
 
 same_everywhere : {A : Type 0} (n i : ℕ) (x : A) → get_or (replicate n x) i x ≡ x

@@ -1,11 +1,7 @@
 -- A goroutine that ends.
 use Rattle.std.proofs.Common.{◌≡◌, ℕ, ◌<◌, true, false, cond, eqb, Bool, List, length, get_or, refl, arith}
-use Rattle.std.proofs.Math.ListN.{set}
-use Rattle.std.proofs.lemmas.Bool.{cases_eq}
-use Rattle.std.proofs.lemmas.Bool.Decides.{nat_tests}
 use Rattle.std.proofs.lemmas.List.{get_or-set_same, get_or-set_other}
-use Rattle.gh_model.specs.Ever.{with_end}
-use Rattle.gh_ever.specs.Lists.{Lists, ever_of}
+use Rattle.gh_ever.proofs.Vocabulary.{cases_eq, ever_of, Lists, nat_tests, set, with_end}
 use Rattle.gh_ever.proofs.Same.{same_ever}
 
 ended_after : (ended : List Bool) (g h : ℕ) → g < length ended → get_or (set ended g true) h false ≡ cond (eqb h g) true (get_or ended h false)

@@ -1,12 +1,8 @@
 -- An object that is added to the lists is made in the heap.
 use Rattle.std.proofs.Common.{◌≡◌, ℕ, ◌+◌, ◌-◌, ◌<◌, ◌≤◌, ◌^◌, Bool, true, false, cond, eqb, List, [], ◌∷◌, ◌++◌, length, get_or, Option, Some, None, refl, sym, ◌∙◌, ap, subst, arith, inl, inr, ◌⊎◌, true≢false, length-set, get_or-set_same, get_or-set_other}
-use Rattle.std.specs.Option.{unwrap_or, is_some, IsSome}
-use Rattle.std.proofs.lemmas.Bool.{cases_Bool, cases_eq}
-use Rattle.std.proofs.lemmas.Bool.Decides.{nat_tests}
-use Rattle.std.proofs.lemmas.Option.{same_Some}
+use Rattle.std.proofs.lemmas.Bool.{cases_Bool}
+use Rattle.gh_ever.proofs.Vocabulary.{cases_eq, Ever, ever_of, EverValue, Field, first_value, is_some, IsInKnown, IsKnown, IsSome, kind_of, Lists, Name, nat_tests, next_name, Object, Place, Register, same_name, same_Some, set, Sound, spent, stored_value, unstored, unwrap_or, with_object, with_register}
 use Rattle.gh_base.specs.Shapes.{shape_at, is_pointer}
-use Rattle.gh_model.specs.declared.EverValue.TheVariants as values
-use Rattle.gh_ever.proofs.Vocabulary.{Ever, ever_of, EverValue, Field, first_value, IsInKnown, IsKnown, kind_of, Lists, Name, next_name, Object, Place, Register, same_name, set, Sound, spent, stored_value, unstored, with_object, with_register}
 use Rattle.gh_ever.proofs.Places.{name_tells}
 use Rattle.gh_ever.proofs.Same.{same_ever}
 use Rattle.gh_ever.proofs.Writing.{with_cell, ever-with_cell, sound_put, spent_le, length-spent}
@@ -69,7 +65,7 @@ still_some os n t m e h = go (same_name m n) (kind_of-push os n t m e) where
   go true f = ap is_some f
   go false f = ap is_some f ∙ h
 
-pub fresh_known : (v : Lists) (g t : ℕ) → Sound v → IsKnown (v.objects ++ record { name = fresh v g; kind = t } ∷ []) (values.Ref (fresh v g))
+pub fresh_known : (v : Lists) (g t : ℕ) → Sound v → IsKnown (v.objects ++ record { name = fresh v g; kind = t } ∷ []) (EverValue.Ref (fresh v g))
 fresh_known v g t s = grind (arith, fresh_unmade, kind_of-push)
 
 known_still : (v : Lists) (g t : ℕ) → Sound v → (x : EverValue) → IsKnown v.objects x → IsKnown (v.objects ++ record { name = fresh v g; kind = t } ∷ []) x
@@ -80,7 +76,7 @@ inside_still v g t s p h = grind (arith, fresh_unmade, still_some)
 
 -- with the register that names it
 abbrev pub with_new : Lists → ℕ → ℕ → ℕ → List ℕ → Lists
-with_new v g d t left = with_cell (with_made v g t) (Register g d) (values.Ref (fresh v g)) left
+with_new v g d t left = with_cell (with_made v g t) (Register g d) (EverValue.Ref (fresh v g)) left
 
 pub sound_made : (v : Lists) (g t : ℕ) → Sound v → g < length v.left → 0 < get_or v.left g 0 → t < length v.shapes → Sound (record v { made = set v.made g (get_or v.made g 0 + 1); objects = v.objects ++ record { name = fresh v g; kind = t } ∷ []; left = spent v.left g })
 sound_made v g t s w due kind = record {
@@ -118,15 +114,15 @@ sound_made v g t s w due kind = record {
 
 pub sound_new : (v : Lists) (g d t : ℕ) → Sound v → g < length v.left → 0 < get_or v.left g 0 → t < length v.shapes → Sound (with_new v g d t (spent v.left g))
 sound_new v g d t s w due kind = sound_put (record v { made = set v.made g (get_or v.made g 0 + 1); objects = v.objects ++ record { name = fresh v g; kind = t } ∷ []; left = spent v.left g })
-    (Register g d) (values.Ref (fresh v g)) (sound_made v g t s w due kind) tt (fresh_known v g t s)
+    (Register g d) (EverValue.Ref (fresh v g)) (sound_made v g t s w due kind) tt (fresh_known v g t s)
 
 pub fresh-next : (v : Lists) (g : ℕ) → next_name (ever_of v) g ≡ fresh v g
 unfolding ever_of
 fresh-next v g = refl
 
-pub ever-new : (v : Lists) (g d t : ℕ) (left : List ℕ) → Sound v → g < length v.left → ever_of (with_new v g d t left) ≡ with_register (with_object v.shapes (ever_of v) g t) g d (values.Ref (next_name (ever_of v) g))
+pub ever-new : (v : Lists) (g d t : ℕ) (left : List ℕ) → Sound v → g < length v.left → ever_of (with_new v g d t left) ≡ with_register (with_object v.shapes (ever_of v) g t) g d (EverValue.Ref (next_name (ever_of v) g))
 ever-new v g d t left s w =
     let within : g < length v.made = omega (arith, s.counted) in
-    ever-with_cell (with_made v g t) (Register g d) (values.Ref (fresh v g)) left
-    ∙ ap (λ (e : Ever). with_register e g d (values.Ref (fresh v g))) (ever-with_made v g t s within)
-    ∙ ap (λ (n : Name). with_register (with_object v.shapes (ever_of v) g t) g d (values.Ref n)) (sym (fresh-next v g))
+    ever-with_cell (with_made v g t) (Register g d) (EverValue.Ref (fresh v g)) left
+    ∙ ap (λ (e : Ever). with_register e g d (EverValue.Ref (fresh v g))) (ever-with_made v g t s within)
+    ∙ ap (λ (n : Name). with_register (with_object v.shapes (ever_of v) g t) g d (EverValue.Ref n)) (sym (fresh-next v g))

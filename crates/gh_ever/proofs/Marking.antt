@@ -1,11 +1,7 @@
 -- A walk over objects and their marks.
 use Rattle.std.proofs.Common.{◌≡◌, ℕ, ◌+◌, ◌<◌, Bool, true, false, cond, List, [], ◌∷◌, ◌++◌, length, get_or, take, drop, refl, sym, ◌∙◌, ap, add-one}
-use Rattle.std.proofs.Math.ListN.{set}
-use Rattle.std.proofs.lemmas.List.{drop_more, take_more, append_assoc, set_split}
-use Rattle.gh_base.specs.declared.value.Name.{Name}
-use Rattle.gh_model.specs.Ever.{same_name}
-use Rattle.gh_ever.specs.declared.object.Object.{Object}
-use Rattle.gh_ever.specs.Marks.{marked, with_mark}
+use Rattle.std.proofs.lemmas.List.{drop_more, append_assoc, set_split}
+use Rattle.gh_ever.proofs.Vocabulary.{marked, Name, Object, same_name, set, take_more, with_mark}
 
 -- both lists from here on
 objects_here : (os : List Object) (i : ℕ) (o : Object) → i < length os → o ≡ get_or os i o → drop i os ≡ o ∷ drop (i + 1) os

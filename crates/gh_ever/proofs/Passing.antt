@@ -1,13 +1,8 @@
 -- One pass over the cells.
 use Rattle.std.proofs.Common.{◌≡◌, ℕ, ◌+◌, ◌<◌, Bool, true, false, List, length, get_or, Some, sym, ◌∙◌, ap, subst, arith}
-use Rattle.std.specs.List.{AllWithin}
 use Rattle.std.proofs.lemmas.List.{get_or_default}
 use Rattle.std.proofs.lemmas.List.Elements.{AllWithin-more}
-use Rattle.gh_ever.specs.declared.cell.Cell.{Cell}
-use Rattle.gh_ever.specs.Cells.{stored_value}
-use Rattle.gh_ever.specs.Lists.{Lists}
-use Rattle.gh_ever.specs.Marks.{unmarked, IsFollowed}
-use Rattle.gh_ever.specs.Sound.{Sound}
+use Rattle.gh_ever.proofs.Vocabulary.{AllWithin, Cell, IsFollowed, Lists, Sound, stored_value, unmarked}
 use Rattle.gh_ever.proofs.Reaching.{cell_held}
 
 -- a cell that is read is held at its place

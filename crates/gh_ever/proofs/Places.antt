@@ -1,12 +1,6 @@
 -- What the tests of names and places tell, and what stands where after a value was stored.
 use Rattle.std.proofs.Common.{◌≡◌, Bool, true, false, cond, List, [], ◌∷◌, Some, refl, sym, ◌∙◌, subst, arith}
-use Rattle.std.proofs.lemmas.Bool.Decides.{nat_tests}
-use Rattle.gh_base.specs.declared.value.Name.{Name}
-use Rattle.gh_model.specs.declared.EverValue.{EverValue}
-use Rattle.gh_model.specs.Ever.{same_name}
-use Rattle.gh_ever.specs.declared.cell.Place.{Place}
-use Rattle.gh_ever.specs.declared.cell.Cell.{Cell}
-use Rattle.gh_ever.specs.Cells.{stored_value, put_value, same_place, IsDistinct}
+use Rattle.gh_ever.proofs.Vocabulary.{Cell, EverValue, IsDistinct, Name, nat_tests, Place, put_value, same_name, same_place, stored_value}
 
 pub name_tells : (n m : Name) → same_name n m ≡ true → n ≡ m
 name_tells n m h =

@@ -1,14 +1,7 @@
 -- Storing a value: what the code does by a place's index is `put_value`, and what each place's index is afterwards.
 use Rattle.std.proofs.Common.{◌≡◌, ℕ, suc, ◌<◌, Bool, cond, List, [], ◌∷◌, ◌++◌, length, get_or, Option, Some, None, Result, refl, sym, ◌∙◌, ap, arith}
-use Rattle.std.proofs.Math.ListN.{set}
-use Rattle.std.specs.HashMap.{get, HashMap}
-use Rattle.std.specs.Option.{option_map}
 use Rattle.std.specs.Result.{IsOk, OnOk}
-use Rattle.gh_model.specs.declared.EverValue.{EverValue}
-use Rattle.gh_ever.specs.declared.cell.Place.{Place}
-use Rattle.gh_ever.specs.declared.cell.Cell.{Cell}
-use Rattle.gh_ever.specs.Cells.{put_value, same_place, stored_value}
-use Rattle.gh_ever.specs.Found.{FindsCells, index_of}
+use Rattle.gh_ever.proofs.Vocabulary.{Cell, EverValue, FindsCells, get, HashMap, index_of, option_map, Place, put_value, same_place, set, stored_value}
 use Rattle.gh_ever.proofs.Places.{place_turned}
 
 -- A place that has a cell.

@@ -1,22 +1,7 @@
 -- What is marked, and what a heap reaches.
 use Rattle.std.proofs.Common.{◌≡◌, ℕ, zero, suc, ◌<◌, ◌≤◌, Bool, true, false, cond, not, List, [], ◌∷◌, length, get_or, Option, Some, refl, sym, ◌∙◌, ap, subst, arith, inl, inr, ◌⊎◌}
-use Rattle.std.specs.Option.{unwrap_or, IsSome}
-use Rattle.std.specs.List.{All}
 use Rattle.std.proofs.lemmas.Bool.{true≢false}
-use Rattle.std.proofs.lemmas.Option.{same_Some}
-use Rattle.gh_base.specs.declared.value.Name.{Name}
-use Rattle.gh_model.specs.declared.EverValue.{EverValue}
-use Rattle.gh_model.specs.declared.EverValue.TheVariants as values
-use Rattle.gh_model.specs.Ever.{Reach, from_global, from_register, from_field, same_name}
-use Rattle.gh_ever.specs.declared.cell.Place.{Place}
-use Rattle.gh_ever.specs.declared.cell.Place.TheVariants.{Global, Register, Field}
-use Rattle.gh_ever.specs.declared.cell.Cell.{Cell}
-use Rattle.gh_ever.specs.declared.object.Object.{Object}
-use Rattle.gh_ever.specs.Cells.{stored_value, same_place, IsDistinct}
-use Rattle.gh_ever.specs.Objects.{kind_of}
-use Rattle.gh_ever.specs.Lists.{Lists, ever_of, unstored}
-use Rattle.gh_ever.specs.Marks.{marked, with_mark, leads, IsSoundMarks, IsFollowed, AreComplete}
-use Rattle.gh_ever.specs.Sound.{Sound}
+use Rattle.gh_ever.proofs.Vocabulary.{All, AreComplete, Cell, ever_of, EverValue, Field, from_field, from_global, from_register, Global, IsDistinct, IsFollowed, IsSome, IsSoundMarks, kind_of, leads, Lists, marked, Name, Object, Place, Reach, Register, same_name, same_place, same_Some, Sound, stored_value, unstored, unwrap_or, with_mark}
 use Rattle.gh_ever.proofs.Places.{place_tells, place_itself}
 
 -- The marks after one more.
@@ -75,34 +60,34 @@ not_false : (b : Bool) → not b ≡ true → b ≡ false
 not_false b h = grind arith
 
 -- what a place leads to is reachable
-pub leads_reach : (v : Lists) (ms : List Bool) (p : Place) (n : Name) → IsSoundMarks v ms → stored_value v.cells p ≡ Some (values.Ref n) → leads v ms p ≡ true → Reach (ever_of v) n
+pub leads_reach : (v : Lists) (ms : List Bool) (p : Place) (n : Name) → IsSoundMarks v ms → stored_value v.cells p ≡ Some (EverValue.Ref n) → leads v ms p ≡ true → Reach (ever_of v) n
 unfolding ever_of
-leads_reach v ms (Global k) n s h l = from_global k n (ap (λ (o : Option EverValue). unwrap_or o values.Nil) h)
-leads_reach v ms (Register g d) n s h l = from_register g d n (not_false (get_or v.ended g false) l) (ap (λ (o : Option EverValue). unwrap_or o values.Nil) h)
+leads_reach v ms (Global k) n s h l = from_global k n (ap (λ (o : Option EverValue). unwrap_or o EverValue.Nil) h)
+leads_reach v ms (Register g d) n s h l = from_register g d n (not_false (get_or v.ended g false) l) (ap (λ (o : Option EverValue). unwrap_or o EverValue.Nil) h)
 leads_reach v ms (Field m k) n s h l = from_field m k n (s m l) (ap (λ (o : Option EverValue). unwrap_or o (unstored v.shapes (kind_of v.objects m) k)) h)
 
-unstored_no_name : (v : Lists) (o : Option ℕ) (k : ℕ) (n : Name) → unstored v.shapes o k ≡ values.Ref n → ⊥
+unstored_no_name : (v : Lists) (o : Option ℕ) (k : ℕ) (n : Name) → unstored v.shapes o k ≡ EverValue.Ref n → ⊥
 unstored_no_name v o k n h = grind arith
 
-stored : (o : Option EverValue) (d : EverValue) (n : Name) → (d ≡ values.Ref n → ⊥) → unwrap_or o d ≡ values.Ref n → o ≡ Some (values.Ref n)
+stored : (o : Option EverValue) (d : EverValue) (n : Name) → (d ≡ EverValue.Ref n → ⊥) → unwrap_or o d ≡ EverValue.Ref n → o ≡ Some (EverValue.Ref n)
 stored o d n other h = grind arith
 
 -- where no cell leads further, what a leading place holds is marked
-followed : (v : Lists) (ms : List Bool) (p : Place) (n : Name) → AreComplete v ms → leads v ms p ≡ true → stored_value v.cells p ≡ Some (values.Ref n) → marked v.objects ms n ≡ true
+followed : (v : Lists) (ms : List Bool) (p : Place) (n : Name) → AreComplete v ms → leads v ms p ≡ true → stored_value v.cells p ≡ Some (EverValue.Ref n) → marked v.objects ms n ≡ true
 followed v ms p n all l h =
-    let found = held_cell v.cells p (values.Ref n) h in
-    let cell : Cell = record { place = p; value = values.Ref n } in
+    let found = held_cell v.cells p (EverValue.Ref n) h in
+    let cell : Cell = record { place = p; value = EverValue.Ref n } in
     let here : IsFollowed v ms cell = subst (λ (c : Cell). IsFollowed v ms c) (found.2 cell) (all found.0 cell found.1) in
     here l n refl
 
-nil_no_name : (n : Name) → values.Nil ≡ values.Ref n → ⊥
+nil_no_name : (n : Name) → EverValue.Nil ≡ EverValue.Ref n → ⊥
 nil_no_name n h = cc
 
 -- and so all that is reachable is marked
 pub reach_marked : (v : Lists) (ms : List Bool) → AreComplete v ms → (n : Name) → Reach (ever_of v) n → marked v.objects ms n ≡ true
 unfolding ever_of
-reach_marked v ms all n (from_global k n' h) = followed v ms (Global k) n' all refl (stored (stored_value v.cells (Global k)) values.Nil n' (nil_no_name n') h)
-reach_marked v ms all n (from_register g d n' e h) = followed v ms (Register g d) n' all (ap not e) (stored (stored_value v.cells (Register g d)) values.Nil n' (nil_no_name n') h)
+reach_marked v ms all n (from_global k n' h) = followed v ms (Global k) n' all refl (stored (stored_value v.cells (Global k)) EverValue.Nil n' (nil_no_name n') h)
+reach_marked v ms all n (from_register g d n' e h) = followed v ms (Register g d) n' all (ap not e) (stored (stored_value v.cells (Register g d)) EverValue.Nil n' (nil_no_name n') h)
 reach_marked v ms all n (from_field m k n' r h) = followed v ms (Field m k) n' all (reach_marked v ms all m r) (stored (stored_value v.cells (Field m k)) (unstored v.shapes (kind_of v.objects m) k) n' (unstored_no_name v (kind_of v.objects m) k n') h)
 
 -- One step.
@@ -114,15 +99,15 @@ sound_with_mark v ms n s r m h = elim (marked_before v.objects ms n m h) [
 ]
 
 -- what a cell leads to is marked, and stays sound
-pub followed_sound : (v w : Lists) (ms new : List Bool) (c : Cell) (n : Name) → w ≡ v → IsSoundMarks v ms → stored_value v.cells c.place ≡ Some c.value → c.value ≡ values.Ref n → leads v ms c.place ≡ true → new ≡ with_mark w.objects ms n → IsSoundMarks v new
+pub followed_sound : (v w : Lists) (ms new : List Bool) (c : Cell) (n : Name) → w ≡ v → IsSoundMarks v ms → stored_value v.cells c.place ≡ Some c.value → c.value ≡ EverValue.Ref n → leads v ms c.place ≡ true → new ≡ with_mark w.objects ms n → IsSoundMarks v new
 followed_sound v w ms new c n e s h i l f = grind (arith, leads_reach, sound_with_mark)
 
-same_ref : (n m : Name) → values.Ref n ≡ values.Ref m → n ≡ m
+same_ref : (n m : Name) → EverValue.Ref n ≡ EverValue.Ref m → n ≡ m
 same_ref n m h = cc
 
-pub followed_marked : (v w : Lists) (ms new : List Bool) (c : Cell) (n : Name) → w ≡ v → Sound w → length w.objects ≤ length ms → stored_value v.cells c.place ≡ Some c.value → c.value ≡ values.Ref n → new ≡ with_mark w.objects ms n → IsFollowed v new c
+pub followed_marked : (v w : Lists) (ms new : List Bool) (c : Cell) (n : Name) → w ≡ v → Sound w → length w.objects ≤ length ms → stored_value v.cells c.place ≡ Some c.value → c.value ≡ EverValue.Ref n → new ≡ with_mark w.objects ms n → IsFollowed v new c
 followed_marked v w ms new c n e s len h i f l m j =
-    let there : stored_value w.cells c.place ≡ Some (values.Ref n) = ap (λ (x : Lists). stored_value x.cells c.place) e ∙ h ∙ ap Some i in
-    let at : marked w.objects (with_mark w.objects ms n) n ≡ true = marked_itself w.objects ms n len (s.values c.place (values.Ref n) there) in
+    let there : stored_value w.cells c.place ≡ Some (EverValue.Ref n) = ap (λ (x : Lists). stored_value x.cells c.place) e ∙ h ∙ ap Some i in
+    let at : marked w.objects (with_mark w.objects ms n) n ≡ true = marked_itself w.objects ms n len (s.values c.place (EverValue.Ref n) there) in
     let here : marked v.objects new n ≡ true = ap (λ (x : List Bool). marked v.objects x n) f ∙ subst (λ (x : Lists). marked x.objects (with_mark w.objects ms n) n ≡ true) e at in
     subst (λ (x : Name). marked v.objects new x ≡ true) (same_ref n m (sym i ∙ j)) here

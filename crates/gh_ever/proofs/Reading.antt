@@ -1,15 +1,6 @@
 -- What is read from the lists was made.
 use Rattle.std.proofs.Common.{◌≡◌, Option, Some, None, refl, sym, subst}
-use Rattle.std.specs.Option.{unwrap_or}
-use Rattle.gh_model.specs.declared.EverValue.{EverValue}
-use Rattle.gh_model.specs.declared.EverValue.TheVariants.{Nil}
-use Rattle.gh_ever.specs.declared.cell.Place.{Place}
-use Rattle.gh_ever.specs.Cells.{stored_value}
-use Rattle.gh_ever.specs.Objects.{IsKnown}
-use Rattle.gh_ever.specs.Lists.{Lists}
-use Rattle.gh_ever.specs.Sound.{Sound}
-use Rattle.gh_ever.specs.Inside.{lists_of, IsSound}
-use Rattle.gh_ever.specs.declared.kept.Kept.TheInside.{Inside}
+use Rattle.gh_ever.proofs.Vocabulary.{EverValue, Inside, IsKnown, IsSound, Lists, lists_of, Nil, Place, Sound, stored_value, unwrap_or}
 
 known_or_nil : (lists : Lists) (place : Place) → Sound lists → (o : Option EverValue) → stored_value lists.cells place ≡ o → IsKnown lists.objects (unwrap_or o Nil)
 known_or_nil lists place s None e = tt

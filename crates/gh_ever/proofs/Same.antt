@@ -1,7 +1,6 @@
 -- Heaps that agree everywhere are one heap.
 use Rattle.std.proofs.Common.{◌≡◌, ℕ}
-use Rattle.gh_base.specs.declared.value.Name.{Name}
-use Rattle.gh_model.specs.Ever.{Ever}
+use Rattle.gh_ever.proofs.Vocabulary.{Ever, Name}
 
 pub same_ever : (e f : Ever) → ((g : ℕ) → e.made g ≡ f.made g) → ((n : Name) → e.type_of n ≡ f.type_of n) → ((n : Name) (k : ℕ) → e.field n k ≡ f.field n k) →
     ((k : ℕ) → e.global k ≡ f.global k) → ((g d : ℕ) → e.register g d ≡ f.register g d) → ((g : ℕ) → e.ended g ≡ f.ended g) → e ≡ f

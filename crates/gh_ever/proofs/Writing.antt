@@ -1,20 +1,8 @@
 -- A value that is stored in the lists stands in the heap.
 use Rattle.std.proofs.Common.{◌≡◌, ℕ, ◌+◌, ◌-◌, ◌<◌, ◌≤◌, Bool, true, false, cond, List, length, get_or, Option, Some, refl, sym, ◌∙◌, ap, subst, arith, inl, inr, sum}
-use Rattle.std.specs.Option.{unwrap_or}
-use Rattle.std.proofs.lemmas.Bool.{cases_lt, cases_eq}
-use Rattle.std.proofs.lemmas.Option.{same_Some}
 use Rattle.std.proofs.lemmas.List.{length-set, get_or-set_same, get_or-set_other, set_past}
 use Rattle.std.proofs.lemmas.List.Sums.{sum_by-set}
-use Rattle.gh_model.specs.declared.EverValue.{EverValue}
-use Rattle.gh_model.specs.declared.EverValue.TheVariants as values
-use Rattle.gh_model.specs.Ever.{with_register, with_global, with_field}
-use Rattle.gh_ever.specs.declared.cell.Place.{Place}
-use Rattle.gh_ever.specs.declared.cell.Place.TheVariants.{Global, Register, Field}
-use Rattle.gh_ever.specs.Cells.{put_value, same_place, stored_value}
-use Rattle.gh_ever.specs.Objects.{IsKnown, IsInKnown, kind_of}
-use Rattle.gh_ever.specs.Lists.{Lists, ever_of, unstored}
-use Rattle.gh_ever.specs.Applied.{spent, with_value}
-use Rattle.gh_ever.specs.Sound.{Sound}
+use Rattle.gh_ever.proofs.Vocabulary.{cases_eq, cases_lt, ever_of, EverValue, Field, Global, IsInKnown, IsKnown, kind_of, Lists, Place, put_value, Register, same_place, same_Some, Sound, spent, stored_value, unstored, unwrap_or, with_field, with_global, with_register, with_value}
 use Rattle.gh_ever.proofs.Places.{held-put, distinct-put, place_tells}
 use Rattle.gh_ever.proofs.Same.{same_ever}
 
@@ -32,16 +20,16 @@ pub ever-with_cell : (v : Lists) (p : Place) (x : EverValue) (left : List ℕ) �
 unfolding ever_of
 ever-with_cell v (Global k) x left = same_ever (ever_of (with_cell v (Global k) x left)) (with_global (ever_of v) k x) (λ h. refl) (λ n. refl)
     (λ n j. read-put v (Global k) x (unstored v.shapes (kind_of v.objects n) j) (Field n j))
-    (λ j. read-put v (Global k) x values.Nil (Global j))
-    (λ h d. read-put v (Global k) x values.Nil (Register h d)) (λ h. refl)
+    (λ j. read-put v (Global k) x EverValue.Nil (Global j))
+    (λ h d. read-put v (Global k) x EverValue.Nil (Register h d)) (λ h. refl)
 ever-with_cell v (Register h c) x left = same_ever (ever_of (with_cell v (Register h c) x left)) (with_register (ever_of v) h c x) (λ h. refl) (λ n. refl)
     (λ n j. read-put v (Register h c) x (unstored v.shapes (kind_of v.objects n) j) (Field n j))
-    (λ j. read-put v (Register h c) x values.Nil (Global j))
-    (λ i d. read-put v (Register h c) x values.Nil (Register i d)) (λ h. refl)
+    (λ j. read-put v (Register h c) x EverValue.Nil (Global j))
+    (λ i d. read-put v (Register h c) x EverValue.Nil (Register i d)) (λ h. refl)
 ever-with_cell v (Field m k) x left = same_ever (ever_of (with_cell v (Field m k) x left)) (with_field (ever_of v) m k x) (λ h. refl) (λ n. refl)
     (λ n j. read-put v (Field m k) x (unstored v.shapes (kind_of v.objects n) j) (Field n j))
-    (λ j. read-put v (Field m k) x values.Nil (Global j))
-    (λ i d. read-put v (Field m k) x values.Nil (Register i d)) (λ h. refl)
+    (λ j. read-put v (Field m k) x EverValue.Nil (Global j))
+    (λ i d. read-put v (Field m k) x EverValue.Nil (Register i d)) (λ h. refl)
 
 -- Counting the statements to come.
 

@@ -1,16 +1,11 @@
 -- What a statement does to the lists.
 use Rattle.std.specs.Prelude.{◌≡◌, ℕ, ◌+◌, ◌-◌, ◌<◌, ◌≤◌, List, length, sum, slice_index, slice_set, Option, Some}
+use Rattle.gh_ever.specs.Vocabulary.{answer_of, Ever, ever_after, EverValue, Field, Global, Place, Register, Shape, with_field, with_global, with_register}
 use Rattle.gh_base.specs.declared.value.Answer.{Answer}
 use Rattle.gh_base.specs.declared.value.Answer.TheVariants.{Full}
 use Rattle.gh_base.specs.declared.operation.Op.{Op}
 use Rattle.gh_base.specs.declared.operation.Op.TheVariants.{New}
-use Rattle.gh_base.specs.declared.shape.Shape.{Shape}
 use Rattle.gh_script.specs.declared.statement.Stmt.{Stmt}
-use Rattle.gh_script.specs.declared.statement.Stmt.TheVariants as statements
-use Rattle.gh_model.specs.declared.EverValue.{EverValue}
-use Rattle.gh_model.specs.Ever.{Ever, answer_of, ever_after, with_register, with_global, with_field}
-use Rattle.gh_ever.specs.declared.cell.Place.{Place}
-use Rattle.gh_ever.specs.declared.cell.Place.TheVariants.{Global, Register, Field}
 use Rattle.gh_ever.specs.Lists.{Lists, ever_of}
 
 -- the answer of the heap that never frees, where a `new` that was told `full` is answered so
@@ -20,7 +15,7 @@ given_answer shapes e op told = answer_of shapes e op
 
 -- the statement names no type beyond the script's
 abbrev pub NamesType : List Shape → Stmt → Type 0
-NamesType shapes (statements.New d t) = t < length shapes
+NamesType shapes (Stmt.New d t) = t < length shapes
 NamesType shapes _ = Unit {0}
 
 -- goroutine g has a statement to come

@@ -1,10 +1,6 @@
 -- What was stored, by its place.
 use Rattle.std.specs.Prelude.{◌≡◌, Bool, false, ◌==◌, ◌&&◌, if◌then◌else◌, List, [], ◌∷◌, Option, Some, None}
-use Rattle.gh_model.specs.declared.EverValue.{EverValue}
-use Rattle.gh_model.specs.Ever.{same_name}
-use Rattle.gh_ever.specs.declared.cell.Place.{Place}
-use Rattle.gh_ever.specs.declared.cell.Place.TheVariants.{Global, Register, Field}
-use Rattle.gh_ever.specs.declared.cell.Cell.{Cell}
+use Rattle.gh_ever.specs.Vocabulary.{Cell, EverValue, Field, Global, Place, Register, same_name}
 
 abbrev pub same_place : Place → Place → Bool
 same_place (Global j) (Global k) = j == k

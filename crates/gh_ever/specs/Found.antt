@@ -1,13 +1,8 @@
 -- What is found without a walk: a place's cell, and the type of an object.
 use Rattle.std.specs.Prelude.{◌≡◌, ℕ, suc, Bool, ◌==◌, ◌&&◌, if◌then◌else◌, List, [], ◌∷◌, ◌++◌, Option, Some, None}
 use Rattle.std.specs.Hash as writes
-use Rattle.std.specs.HashMap.{get, HashMap}
 use Rattle.std.specs.Option.{option_map}
-use Rattle.gh_base.specs.declared.value.Name.{Name}
-use Rattle.gh_ever.specs.declared.cell.Place.{Place}
-use Rattle.gh_ever.specs.declared.cell.Place.TheVariants.{Global, Register, Field}
-use Rattle.gh_ever.specs.declared.cell.Cell.{Cell}
-use Rattle.gh_ever.specs.declared.object.Object.{Object}
+use Rattle.gh_ever.specs.Vocabulary.{Cell, Field, get, Global, HashMap, Name, Object, Place, Register}
 use Rattle.gh_ever.specs.Cells.{same_place}
 use Rattle.gh_ever.specs.Objects.{kind_of}
 

@@ -1,6 +1,6 @@
 -- What stands in a `Kept`.
 use Rattle.std.specs.Prelude.{◌+◌, ◌≤◌, sum, vec_len, vec_capacity}
-use Rattle.std.specs.HashMap.{spare}
+use Rattle.gh_ever.specs.Vocabulary.{spare}
 use Rattle.gh_ever.specs.Found.{FindsCells, FindsKinds}
 use Rattle.gh_ever.specs.Lists.{Lists}
 use Rattle.gh_ever.specs.Sound.{Sound}

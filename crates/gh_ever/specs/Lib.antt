@@ -6,3 +6,4 @@ pub mod Applied
 pub mod Sound
 pub mod Inside
 pub mod Marks
+pub mod Vocabulary

@@ -1,13 +1,6 @@
 -- The lists that stand for a heap that never frees.
 use Rattle.std.specs.Prelude.{ℕ, Bool, false, List, [], length, map, replicate, unwrap_or, slice_index, slice_index_or, Option, Some, None}
-use Rattle.gh_base.specs.declared.shape.Shape.{Shape}
-use Rattle.gh_base.specs.Shapes.{shape_at, is_pointer}
-use Rattle.gh_model.specs.declared.EverValue.{EverValue}
-use Rattle.gh_model.specs.declared.EverValue.TheVariants as values
-use Rattle.gh_model.specs.Ever.{Ever, first_value}
-use Rattle.gh_ever.specs.declared.cell.Place.TheVariants as places
-use Rattle.gh_ever.specs.declared.cell.Cell.{Cell}
-use Rattle.gh_ever.specs.declared.object.Object.{Object}
+use Rattle.gh_ever.specs.Vocabulary.{Cell, Ever, EverValue, first_value, is_pointer, Object, Place, Shape, shape_at}
 use Rattle.gh_script.specs.Program.{Program}
 use Rattle.gh_ever.specs.Cells.{stored_value}
 use Rattle.gh_ever.specs.Objects.{kind_of}
@@ -22,7 +15,7 @@ pub record Lists : Type 0 where
 
 -- a field where nothing was stored, by its object's type
 abbrev pub unstored : List Shape → Option ℕ → ℕ → EverValue
-unstored shapes None k = values.Nil
+unstored shapes None k = EverValue.Nil
 unstored shapes (Some kind) k = first_value (is_pointer (shape_at shapes kind) k)
 
 -- the heap that the lists stand for
@@ -30,9 +23,9 @@ unfoldable pub ever_of : Lists → Ever
 ever_of lists = record {
   made = λ g. slice_index lists.made g;
   type_of = λ n. unwrap_or (kind_of lists.objects n) 0;
-  field = λ n k. unwrap_or (stored_value lists.cells (places.Field n k)) (unstored lists.shapes (kind_of lists.objects n) k);
-  global = λ k. unwrap_or (stored_value lists.cells (places.Global k)) values.Nil;
-  register = λ g d. unwrap_or (stored_value lists.cells (places.Register g d)) values.Nil;
+  field = λ n k. unwrap_or (stored_value lists.cells (Place.Field n k)) (unstored lists.shapes (kind_of lists.objects n) k);
+  global = λ k. unwrap_or (stored_value lists.cells (Place.Global k)) EverValue.Nil;
+  register = λ g d. unwrap_or (stored_value lists.cells (Place.Register g d)) EverValue.Nil;
   ended = λ g. slice_index_or lists.ended g false;
 }
 

@@ -1,12 +1,7 @@
 -- Marks, one for each object, of what was found reachable.
 use Rattle.std.specs.Prelude.{◌≡◌, ℕ, Bool, true, false, not, if◌then◌else◌, List, [], ◌∷◌, All, count_by, slice_index_or}
-use Rattle.gh_base.specs.declared.value.Name.{Name}
+use Rattle.gh_ever.specs.Vocabulary.{Cell, Field, Global, Name, Object, Place, Reach, Register, same_name}
 use Rattle.gh_model.specs.declared.EverValue.TheVariants.{Ref}
-use Rattle.gh_model.specs.Ever.{Reach, same_name}
-use Rattle.gh_ever.specs.declared.cell.Place.{Place}
-use Rattle.gh_ever.specs.declared.cell.Place.TheVariants.{Global, Register, Field}
-use Rattle.gh_ever.specs.declared.cell.Cell.{Cell}
-use Rattle.gh_ever.specs.declared.object.Object.{Object}
 use Rattle.gh_ever.specs.Lists.{Lists, ever_of}
 
 -- the object of this name is marked

@@ -1,12 +1,6 @@
 -- The objects that were made.
 use Rattle.std.specs.Prelude.{ℕ, if◌then◌else◌, List, [], ◌∷◌, Option, Some, None, IsSome}
-use Rattle.gh_base.specs.declared.value.Name.{Name}
-use Rattle.gh_model.specs.declared.EverValue.{EverValue}
-use Rattle.gh_model.specs.declared.EverValue.TheVariants as values
-use Rattle.gh_model.specs.Ever.{same_name}
-use Rattle.gh_ever.specs.declared.cell.Place.{Place}
-use Rattle.gh_ever.specs.declared.cell.Place.TheVariants as places
-use Rattle.gh_ever.specs.declared.object.Object.{Object}
+use Rattle.gh_ever.specs.Vocabulary.{EverValue, Name, Object, Place, same_name}
 
 -- the type of the object of this name, if it was made
 abbrev pub kind_of : List Object → Name → Option ℕ
@@ -15,10 +9,10 @@ kind_of (o ∷ os) n = if same_name n o.name then Some o.kind else kind_of os n
 
 -- what the value names was made
 abbrev pub IsKnown : List Object → EverValue → Type 0
-IsKnown objects (values.Ref n) = IsSome (kind_of objects n)
+IsKnown objects (EverValue.Ref n) = IsSome (kind_of objects n)
 IsKnown objects _ = Unit {0}
 
 -- the object that the place is in was made
 abbrev pub IsInKnown : List Object → Place → Type 0
-IsInKnown objects (places.Field n k) = IsSome (kind_of objects n)
+IsInKnown objects (Place.Field n k) = IsSome (kind_of objects n)
 IsInKnown objects _ = Unit {0}

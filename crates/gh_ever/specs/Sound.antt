@@ -1,11 +1,7 @@
 -- What the lists keep to.
 use Rattle.std.specs.Prelude.{◌≡◌, ℕ, ◌+◌, ◌<◌, ◌≤◌, ◌^◌, List, length, slice_index, Some}
+use Rattle.gh_ever.specs.Vocabulary.{EverValue, Name, Place, Shape, shape_at}
 use Rattle.gh_class.specs.declared.class.TheConstants.{MOST_TYPE_WORDS}
-use Rattle.gh_base.specs.declared.shape.Shape.{Shape}
-use Rattle.gh_base.specs.declared.value.Name.{Name}
-use Rattle.gh_base.specs.Shapes.{shape_at}
-use Rattle.gh_model.specs.declared.EverValue.{EverValue}
-use Rattle.gh_ever.specs.declared.cell.Place.{Place}
 use Rattle.gh_ever.specs.Cells.{IsDistinct, stored_value}
 use Rattle.gh_ever.specs.Objects.{kind_of, IsKnown, IsInKnown}
 use Rattle.gh_ever.specs.Lists.{Lists}

@@ -1,19 +1,8 @@
 -- Along the statements of a whole run alone the heap that never frees answers as it did, and it comes to the same once all goroutines have ended: the end of one changes no answer and no value.
 use Rattle.std.proofs.Common.{◌≡◌, ℕ, zero, suc, ◌+◌, ◌<◌, ◌≤◌, Bool, true, false, cond, eqb, ltb, List, [], ◌∷◌, ◌++◌, length, reverse, Option, Some, None, refl, sym, ap, subst, ◌∙◌, arith, inl, inr}
-use Rattle.std.specs.Option.{option_to_list}
-use Rattle.std.proofs.lemmas.Bool.{cases_lt}
-use Rattle.std.proofs.lemmas.Bool.Decides.{nat_tests}
-use Rattle.gh_model.specs.Answers.{Answers, ever_after_all}
-use Rattle.gh_model.specs.Ever.{with_end}
-use Rattle.gh_lists.specs.Order.{acted_in, Answered, before_step, begun_in, ever_of, in_range, order_of}
+use Rattle.gh_explained.proofs.Vocabulary.{Act, acted, acted_all, acted_in, acts, acts_last, AllAnswer, AllStands, Answer, answer_at, Answered, Answers, answers_in, before_step, begun_in, by, cases_lt, EachOperationActsOnce, Entry, Ever, ever_after, ever_after_all, ever_is, ever_of, EveryListOfAScriptStands, has_ended, in_range, is_statement, IsExplained, its_own, Layout, LaysOut, Legal, map-reverse, nat_tests, no_processors, OnlyPointsChange, Op, opening_ever, ops_in, option_to_list, order_of, Outcome, Program, setting_of, setup_of, Shape, WellFormed, with_end}
 use Rattle.gh_world.specs.Points.{answers_of, ever_along, GoesAlong, ops_of, statements_acted, StatementsAreEnough, with_ends}
-use Rattle.gh_world.specs.RunVocabulary.{AllStands, EveryListOfAScriptStands, has_ended, IsExplained, LaysOut, OnlyPointsChange, setting_of, EachOperationActsOnce}
-use Rattle.gh_lines.specs.Text.{Outcome}
-use Rattle.gh_world.specs.Vocabulary.{Act, acted, acts, AllAnswer, Answer, answer_at, by, Entry, Ever, ever_after, is_statement, Layout, Legal, Op, opening_ever, Program, Shape, WellFormed}
-use Rattle.gh_world.proofs.Explained.Acted.{acted_all, acts_last, answers_in, ever_is, map-reverse, ops_in}
-use Rattle.gh_world.proofs.Explained.Steps.{its_own, no_processors}
 use Rattle.gh_explained.proofs.Explained.Cycles.{is_done}
-use Rattle.gh_world.specs.World.{setup_of}
 
 -- ---- heaps, but for which goroutines have ended
 

@@ -1,28 +1,16 @@
 -- A run of a script so far goes on by a step of any actor that has not ended: a processor's next step is that of its turns, and each step is on a word that there is. It is whole when all have ended.
-use Rattle.std.proofs.Common.{◌≡◌, ℕ, ◌+◌, ◌<◌, ◌≤◌, Bool, true, false, cond, eqb, not, ◌||◌, List, [], ◌∷◌, ◌++◌, length, reverse, refl, sym, ap, subst, ◌∙◌, Option, Some, None, arith}
-use Rattle.gh_base.specs.Lists.{Kind}
+use Rattle.std.proofs.Common.{◌≡◌, ℕ, ◌+◌, ◌<◌, ◌≤◌, Bool, true, false, cond, eqb, not, ◌||◌, List, [], ◌∷◌, ◌++◌, length, reverse, refl, sym, ap, subst, ◌∙◌, Option, Some, None, arith, eqb-true}
 use Rattle.std.proofs.lemmas.List.{append_cancel_left, append-nil}
+use Rattle.gh_explained.proofs.Vocabulary.{acks_of, Actor, actor_after, actor_takes, acts, AllStands, before, begin_facts, BeginFacts, Begins, begins_at, begins_busy, begins_now, begun_in, begun_is, bit, by, cell_of, ended_at, ended_in, Entry, gives_at, GoesOnBy, has_ended, has_ended_in, has_left, has_left_at, is_busy_at, is_leaving, is_processor, is_run_due, is_statement, IsRun, IsRunSoFar, Kind, Layout, LaysOut, leave_is_begun, leaves, Legal, MadeAtMost, MayBeOver, Next, one_more, Op, op_due, opens_at, option_to_list, Polled, Processor, processor_kind, Program, setting_of, setup_of, Stands, started, state_of, statements_among, step_facts, StepFacts, takes, Task, to_come, total_by-le, total_of, turns_of, turns_say, WellFormed, words_after}
 use Rattle.gh_coord.specs.GoingOn.{HasNext}
 use Rattle.gh_mutator.specs.PollRoom.{PollsMakeRoom}
 use Rattle.gh_worker.specs.Listing as worker
-use Rattle.gh_lists.specs.declared.handshake.Actor.TheVariants as actor
-use Rattle.gh_law.specs.Actors.{AllStands}
-use Rattle.gh_lists.specs.Handshake.{actor_takes}
-use Rattle.gh_world.specs.Runs.{GoesOnBy, has_ended_in, IsRun, IsRunSoFar}
-use Rattle.gh_world.specs.Schedule.{ended_after as ended_at, has_ended}
-use Rattle.gh_world.specs.Turns.{is_run_due, Stands}
-use Rattle.gh_world.specs.World.{LaysOut, MadeAtMost, Polled, setup_of}
-use Rattle.gh_world.specs.declared.turns.Next.{Next}
-use Rattle.gh_world.proofs.Vocabulary.{acks_of, Actor, actor_after, acts, Begins, begins, begins_at, begun_in, bit, by, cell_of, ended_in, ends, Entry, eqb-true, gives_at, GoesOnUntilDone, has_left, has_left_at, is_busy_at, is_leaving, leave_is_begun, is_statement, Layout, leaves, Legal, made_by, MayBeOver, Op, op_due, opening_processor, option_to_list, Processor, processor_kind, Program, setting_of, started, state_of, statements_among, takes, Task, to_come, total_of, turns_of, WellFormed, words_after, read_replicate}
+use Rattle.gh_world.proofs.Vocabulary.{begins, ends, GoesOnUntilDone, made_by, opening_processor, read_replicate}
 use Rattle.gh_world.proofs.MayBegin.{due_begins, ended_then, left_then}
 use Rattle.gh_lists.specs.Seats.{IsSeated, seated}
 use Rattle.gh_world.proofs.Due.{due_runs, false_unless, has_due, idle_not_leaving, none_to_come, not_over}
 use Rattle.gh_world.proofs.Fitting.{due_room, polled_begun, polled_stepped}
 use Rattle.gh_explained.proofs.Following.{coming, due_first, Following, following}
-use Rattle.gh_world.proofs.OneRun.{before, begins_now, one_more}
-use Rattle.gh_world.proofs.Resting.{begun_is, is_processor}
-use Rattle.gh_world.proofs.StepFacts.{begin_facts, BeginFacts, begins_busy, step_facts, StepFacts}
-use Rattle.gh_world.proofs.Turning.{opens_at, total_by-le, turns_say}
 
 left_leaves : (t : Task) → has_left_at t ≡ true → is_leaving t ≡ true
 left_leaves t e = grind arith
@@ -51,9 +39,9 @@ module _ (p : Program) (l : Layout) where
 
   module _ (on : GoesOnUntilDone) where
     abbrev HasNextAt : Actor → Type 0
-    HasNextAt (actor.Runs m) = Unit {0}
-    HasNextAt (actor.Marks w) = Unit {0}
-    HasNextAt (actor.Leads c) = HasNext c
+    HasNextAt (Actor.Runs m) = Unit {0}
+    HasNextAt (Actor.Marks w) = Unit {0}
+    HasNextAt (Actor.Leads c) = HasNext c
 
     next_first : (a : ℕ) → HasNextAt (actor_after p l [] a)
     next_first a = grind arith
@@ -241,7 +229,7 @@ module _ (p : Program) (l : Layout) (formed : WellFormed p) (lays : LaysOut p l)
   module _ (es : List (Entry Op)) (r : IsRunSoFar p l es) where
     by_processor : (a : ℕ) (seat : a < l.procs) (o : Option Op) → Begins (setting_of p l) a es o → Begun a es o → GoesOnBy p l es a
     by_processor a seat o begins b =
-        let is : now es a o ≡ actor.Runs (started (one p l) o (after_list a es)) = begun_is p l a seat es o in
+        let is : now es a o ≡ Actor.Runs (started (one p l) o (after_list a es)) = begun_is p l a seat es o in
         follows_so es a o (to_come p a b.keeps.turn) r (omega (arith, seat)) begins (ap (λ (x : Actor). (all p l).busy x) is ∙ b.busy) (λ lt. b.keeps.turns)
 
     of_processor : (a : ℕ) (seat : a < l.procs) → has_left_at (after_list a es).task ≡ false → GoesOnBy p l es a
@@ -263,16 +251,16 @@ module _ (p : Program) (l : Layout) (formed : WellFormed p) (lays : LaysOut p l)
     pub goes_on : (a : ℕ) → a < (setting_of p l).actors → ended_at (setting_of p l) es a ≡ false → GoesOnBy p l es a
     goes_on a lt going = go (actor_after p l es a) refl where
       go : (x : Actor) → actor_after p l es a ≡ x → GoesOnBy p l es a
-      go (actor.Runs m) is =
+      go (Actor.Runs m) is =
           let low : a < l.procs = subst (IsSeated l a) is (seated (setup_of p l) es a) in
           of_processor a low (sym (ap has_ended (is_processor p l a low es)) ∙ going)
-      go (actor.Marks w) is =
+      go (Actor.Marks w) is =
           let high : l.procs ≤ a = (subst (IsSeated l a) is (seated (setup_of p l) es a)).0 in
-          of_other a (actor.Marks w) is high lt (not_false (worker.is_busy w.stage) (sym (ap has_ended is) ∙ going))
-      go (actor.Leads c) is =
+          of_other a (Actor.Marks w) is high lt (not_false (worker.is_busy w.stage) (sym (ap has_ended is) ∙ going))
+      go (Actor.Leads c) is =
           let next : HasNext c = subst (HasNextAt p l laws.on) is (next_at p l laws.on es r.legal a) in
           let high : acks_of l ≤ a = subst (IsSeated l a) is (seated (setup_of p l) es a) in
-          of_other a (actor.Leads c) is (omega (arith, high)) lt (next ∙ ap not (sym (ap has_ended is) ∙ going))
+          of_other a (Actor.Leads c) is (omega (arith, high)) lt (next ∙ ap not (sym (ap has_ended is) ∙ going))
 
     pub ends_whole : ((a : ℕ) → a < (setting_of p l).actors → has_ended_in p l es a) → IsRun p l es
     ends_whole done = record { legal = r.legal; turns = all_begun; done = done } where

@@ -2,3 +2,4 @@ pub mod Following
 pub mod Explained
 pub mod Along
 pub mod GoingOn
+pub mod Vocabulary

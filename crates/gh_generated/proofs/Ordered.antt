@@ -3,15 +3,10 @@ use Rattle.std.proofs.Common.{◌≡◌, ℕ, Bool, true, false, cond, List, [],
 use Rattle.std.specs.List.{filter}
 use Rattle.std.proofs.lemmas.Bool.{cases_lt}
 use Rattle.std.proofs.lemmas.List.Elements.{All-append, All-cons, All-head, All-map, All-nil, All-tail}
-use Rattle.gh_base.specs.declared.operation.Op.{Op}
-use Rattle.gh_base.specs.declared.operation.Op.TheVariants as ops
-use Rattle.gh_base.specs.declared.shape.Shape.{Shape}
+use Rattle.gh_generated.proofs.Vocabulary.{AllKeepToTheirOwn, Ever, ever_left_by, is_by_goroutine, IsOrderOf, KeepsTo, KeepsToItsOwn, Op, opening_ever, operations_of, Shape}
 use Rattle.gh_model.specs.Answers.{answers_from, ever_after_all}
-use Rattle.gh_model.specs.Ever.{Ever, opening_ever}
 use Rattle.gh_script.specs.declared.statement.Stmt.{Stmt}
-use Rattle.gh_script.specs.Generated.{KeepsTo}
 use Rattle.gh_script.specs.Program.{Program, statement_as_op, statements_of}
-use Rattle.gh_generated.specs.Orders.{AllKeepToTheirOwn, ever_left_by, is_by_goroutine, IsOrderOf, KeepsToItsOwn, operations_of}
 use Rattle.gh_generated.proofs.Parts.{Apart, own_change, same_change, SamePart, SamePart-self, SamePart-swapped, SamePart-through}
 use Rattle.gh_generated.proofs.Steps.{some_goroutine, step, step_change, step_elsewhere}
 
@@ -100,6 +95,6 @@ statement_kept g statement h = grind arith
 
 pub operations_kept : (p : Program) (g : ℕ) → All (KeepsTo g) (statements_of p g) → All KeepsToItsOwn (operations_of p g)
 operations_kept p g h =
-    All-append KeepsToItsOwn (map (statement_as_op g) (statements_of p g)) (ops.End g ∷ [])
+    All-append KeepsToItsOwn (map (statement_as_op g) (statements_of p g)) (Op.End g ∷ [])
     (All-map KeepsToItsOwn (statement_as_op g) (statements_of p g) (λ k d lt. statement_kept g _ (h k d lt)))
-    (All-cons KeepsToItsOwn (ops.End g) [] tt (All-nil KeepsToItsOwn))
+    (All-cons KeepsToItsOwn (Op.End g) [] tt (All-nil KeepsToItsOwn))

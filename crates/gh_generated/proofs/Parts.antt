@@ -2,18 +2,14 @@
 use Rattle.std.proofs.Common.{◌≡◌, ℕ, ◌+◌, Bool, true, false, cond, eqb, ◌&&◌, List, refl, sym, ap, subst, ◌∙◌, ◌≢◌, arith}
 use Rattle.std.proofs.lemmas.Bool.{eqb-true}
 use Rattle.std.proofs.lemmas.Bool.Decides.{nat_tests}
-use Rattle.gh_base.specs.declared.shape.Shape.{Shape}
-use Rattle.gh_base.specs.declared.value.Name.{Name}
+use Rattle.gh_generated.proofs.Vocabulary.{Ever, EverValue, first_value, Name, next_name, same_name, Shape, with_end, with_field, with_global, with_object, with_register}
 use Rattle.gh_base.specs.Shapes.{is_pointer, shape_at}
-use Rattle.gh_model.specs.declared.EverValue.{EverValue}
-use Rattle.gh_model.specs.declared.EverValue.TheVariants as values
-use Rattle.gh_model.specs.Ever.{Ever, first_value, next_name, same_name, with_end, with_field, with_global, with_object, with_register}
 
 -- ---- parts
 
 -- the value names no object but one of goroutine g
 abbrev pub IsOwn : ℕ → EverValue → Type 0
-IsOwn g (values.Ref n) = n.g ≡ g
+IsOwn g (EverValue.Ref n) = n.g ≡ g
 IsOwn g v = Unit {0}
 
 -- what each goroutine's registers, its global and the fields of its objects name are its objects
@@ -51,7 +47,7 @@ SamePart-through g e f h s t = record {
 
 -- a heap with a new object of g, which register d names
 abbrev pub with_new : List Shape → Ever → ℕ → ℕ → ℕ → Ever
-with_new shapes e g d t = with_register (with_object shapes e g t) g d (values.Ref (next_name e g))
+with_new shapes e g d t = with_register (with_object shapes e g t) g d (EverValue.Ref (next_name e g))
 
 -- goroutine g changes two heaps alike, each in its own part
 pub data Changes (shapes : List Shape) (g : ℕ) (e f : Ever) : Ever → Ever → Type 0 where
@@ -79,8 +75,8 @@ same_change shapes g e f _ _ (object d t) s = record {
   fields = λ n k own. ap (λ (m : ℕ). cond (eqb n.g g && eqb n.k m) (first_value (is_pointer (shape_at shapes t) k)) (e.field n k)) s.made
       ∙ ap (λ (x : EverValue). cond (eqb n.g g && eqb n.k (f.made g)) (first_value (is_pointer (shape_at shapes t) k)) x) (s.fields n k own);
   global = s.global;
-  registers = λ c. ap (λ (m : ℕ). cond (eqb g g && eqb c d) (values.Ref (record { g = g; k = m })) (e.register g c)) s.made
-      ∙ ap (λ (x : EverValue). cond (eqb g g && eqb c d) (values.Ref (next_name f g)) x) (s.registers c);
+  registers = λ c. ap (λ (m : ℕ). cond (eqb g g && eqb c d) (EverValue.Ref (record { g = g; k = m })) (e.register g c)) s.made
+      ∙ ap (λ (x : EverValue). cond (eqb g g && eqb c d) (EverValue.Ref (next_name f g)) x) (s.registers c);
   ended = s.ended;
 }
 same_change shapes g e f _ _ (field n k v mine own) s = record {
@@ -137,7 +133,7 @@ other_change shapes g h e f _ _ (object d t) ne = record {
   types = λ n of. passed (eqb n.g g) (eqb n.k (e.made g)) t (e.type_of n) (differs n.g g (λ same. ne (sym of ∙ same)));
   fields = λ n k of. passed (eqb n.g g) (eqb n.k (e.made g)) (first_value (is_pointer (shape_at shapes t) k)) (e.field n k) (differs n.g g (λ same. ne (sym of ∙ same)));
   global = refl;
-  registers = λ c. passed (eqb h g) (eqb c d) (values.Ref (next_name e g)) (e.register h c) (differs h g ne);
+  registers = λ c. passed (eqb h g) (eqb c d) (EverValue.Ref (next_name e g)) (e.register h c) (differs h g ne);
   ended = refl;
 }
 other_change shapes g h e f _ _ (field n k v mine own) ne = record {
@@ -188,7 +184,7 @@ own_change shapes g e f _ _ (register d v own) a = record {
 own_change shapes g e f _ _ (object d t) a = record {
   fields = λ n k. own_if n.g (same_name n (next_name e g)) (first_value (is_pointer (shape_at shapes t) k)) (e.field n k) (λ is. own_first n.g (is_pointer (shape_at shapes t) k)) (a.fields n k);
   globals = a.globals;
-  registers = λ h c. own_if h (eqb h g && eqb c d) (values.Ref (next_name e g)) (e.register h c) (λ is. sym (eqb-true h g (left_true (eqb h g) (eqb c d) is))) (a.registers h c);
+  registers = λ h c. own_if h (eqb h g && eqb c d) (EverValue.Ref (next_name e g)) (e.register h c) (λ is. sym (eqb-true h g (left_true (eqb h g) (eqb c d) is))) (a.registers h c);
 }
 own_change shapes g e f _ _ (field n k v mine own) a = record {
   fields = λ m c. own_if m.g (same_name m n && eqb c k) v (e.field m c)

@@ -1,16 +1,11 @@
 -- The moves by which an actor changes the shared state, when it may make them, and what they leave to the others.
 use Rattle.std.specs.Prelude.{◌≡◌, ◌≢◌, ℕ, ◌+◌, ◌*◌, ◌/◌, ◌%◌, ◌^◌, ◌<◌, ◌≤◌, true, false, ◌==◌, if◌then◌else◌, bit_and, bit_or, length, Option, Some, None, ◌⊎◌}
 use Rattle.std.specs.Int.{bit_at}
-use Rattle.gh_base.specs.declared.cell.Ask.TheVariants as ask
-use Rattle.gh_base.specs.declared.cell.Cell.{Cell}
-use Rattle.gh_base.specs.declared.cell.Cell.TheVariants as cell
-use Rattle.gh_base.specs.Cells.{Words, put}
+use Rattle.gh_heap.specs.Vocabulary.{Ask, birth_word, bit, body_word, Cell, Ever, EverValue, field_count, FitsHead, Head, head_word, is_pointer, Large, MOST_STATEMENTS, Name, next_name, page_of, put, Reach, REGISTERS, Row, row_bit, same_name, shape_at, size_class_of, SpanHead, with_end, with_field, with_global, with_object, with_register, Words}
 use Rattle.gh_base.specs.Steps.{cell_of, effect}
-use Rattle.gh_model.specs.declared.EverValue.TheVariants as ever
 use Rattle.gh_heap.specs.Objects.{Holds, IsMade, Place, points, size_for}
 use Rattle.gh_heap.specs.Rights.{Arena, Shared, View, view, Claims, IsOf}
-use Rattle.gh_heap.specs.Spans.{slot_count, slot_size}
-use Rattle.gh_heap.specs.Vocabulary.{Ask, BeingFreed, birth_word, bit, body_at, body_word, Ever, EverValue, field_count, FitsClass, FitsHead, Freeing, Head, head_word, is_pointer, IsEmpty, IsFull, IsSpan, LaidOut, Large, Laying, MOST_STATEMENTS, Name, next_name, numbered_by, owned_by, page_of, Reach, REGISTERS, Row, row_bit, same_name, shape_at, size_class_of, SpanHead, with_end, with_field, with_global, with_object, with_register}
+use Rattle.gh_heap.specs.Spans.{slot_count, slot_size, BeingFreed, body_at, FitsClass, Freeing, IsEmpty, IsFull, IsSpan, LaidOut, Laying, numbered_by, owned_by}
 
 -- A change of the shared state by one step, words and ghosts together.
 pub data Move : Type 0 where
@@ -50,18 +45,18 @@ pub data Sweep : Type 0 where
 
 -- Rows that no right guards.
 abbrev pub IsAside : Cell → Type 0
-IsAside cell.Lock = ⊥
-IsAside cell.Gen = ⊥
-IsAside (cell.Page i) = ⊥
-IsAside (cell.Alloc i) = ⊥
-IsAside (cell.Bitmap i) = ⊥
-IsAside (cell.Birth i) = ⊥
-IsAside (cell.Field i) = ⊥
-IsAside (cell.Global i) = ⊥
+IsAside Cell.Lock = ⊥
+IsAside Cell.Gen = ⊥
+IsAside (Cell.Page i) = ⊥
+IsAside (Cell.Alloc i) = ⊥
+IsAside (Cell.Bitmap i) = ⊥
+IsAside (Cell.Birth i) = ⊥
+IsAside (Cell.Field i) = ⊥
+IsAside (Cell.Global i) = ⊥
 IsAside _ = Unit {0}
 
 abbrev pub IsQuiet : Ask → Type 0
-IsQuiet (ask.Load c) = Unit {0}
+IsQuiet (Ask.Load c) = Unit {0}
 IsQuiet step = IsAside (cell_of step)
 
 -- a row with one entry changed
@@ -87,30 +82,30 @@ abbrev pub moved : Arena → (a : ℕ) → Shared → Move → Shared
 moved z a s (Quiet step) = record s { words = effect s.words step }
 moved z a s (Takes step g d value) = record s { words = effect s.words step; ever = with_register s.ever g d value }
 moved z a s (Ends step g) = record s { words = effect s.words step; ever = with_end s.ever g }
-moved z a s TakeLock = record s { words = put s.words cell.Lock (a + 1); locked = update s.locked a true }
-moved z a s LeaveLock = record s { words = put s.words cell.Lock 0; locked = update s.locked a false }
-moved z a s (Refuse g d) = record s { words = put s.words cell.Lock 0; locked = update s.locked a false; ever = with_register s.ever g d ever.Nil }
-moved z a s (LayBody y) = record s { words = put s.words (cell.Page (y.first + y.next)) (body_word (body_at y.head y.next)); laying = update s.laying a (Some (record y { next = y.next + 1 })) }
-moved z a s (LayHead y) = record s { words = put s.words (cell.Page y.first) (head_word y.head); laying = update s.laying a None; holds = update_at s.holds a y.first true }
-moved z a s (FreeBody y) = record s { words = put s.words (cell.Page (y.first + y.next)) 0; freeing = update s.freeing a (Some (record y { next = y.next + 1 })) }
-moved z a s (FreeHead y) = record s { words = put s.words (cell.Page y.first) 0; freeing = update s.freeing a None }
-moved z a s (Own p h) = record s { words = put s.words (cell.Page p) (head_word (owned_by (a + 1) h)); holds = update_at s.holds a p true }
-moved z a s (Disown p h) = record s { words = put s.words (cell.Page p) (head_word (owned_by 0 h)); holds = update_at s.holds a p false }
-moved z a s (Publish p h) = record s { words = put s.words (cell.Page p) (head_word (owned_by 0 h)); holds = update_at s.holds a p false }
-moved z a s (ClearField at size k) = record s { words = put s.words (cell.Field (at + k)) 0 }
-moved z a s (SetBirth at size n) = record s { words = put s.words (cell.Birth at) (birth_word n) }
-moved z a s (SetBits at size i word) = record s { words = put s.words (cell.Bitmap i) word }
+moved z a s TakeLock = record s { words = put s.words Cell.Lock (a + 1); locked = update s.locked a true }
+moved z a s LeaveLock = record s { words = put s.words Cell.Lock 0; locked = update s.locked a false }
+moved z a s (Refuse g d) = record s { words = put s.words Cell.Lock 0; locked = update s.locked a false; ever = with_register s.ever g d EverValue.Nil }
+moved z a s (LayBody y) = record s { words = put s.words (Cell.Page (y.first + y.next)) (body_word (body_at y.head y.next)); laying = update s.laying a (Some (record y { next = y.next + 1 })) }
+moved z a s (LayHead y) = record s { words = put s.words (Cell.Page y.first) (head_word y.head); laying = update s.laying a None; holds = update_at s.holds a y.first true }
+moved z a s (FreeBody y) = record s { words = put s.words (Cell.Page (y.first + y.next)) 0; freeing = update s.freeing a (Some (record y { next = y.next + 1 })) }
+moved z a s (FreeHead y) = record s { words = put s.words (Cell.Page y.first) 0; freeing = update s.freeing a None }
+moved z a s (Own p h) = record s { words = put s.words (Cell.Page p) (head_word (owned_by (a + 1) h)); holds = update_at s.holds a p true }
+moved z a s (Disown p h) = record s { words = put s.words (Cell.Page p) (head_word (owned_by 0 h)); holds = update_at s.holds a p false }
+moved z a s (Publish p h) = record s { words = put s.words (Cell.Page p) (head_word (owned_by 0 h)); holds = update_at s.holds a p false }
+moved z a s (ClearField at size k) = record s { words = put s.words (Cell.Field (at + k)) 0 }
+moved z a s (SetBirth at size n) = record s { words = put s.words (Cell.Birth at) (birth_word n) }
+moved z a s (SetBits at size i word) = record s { words = put s.words (Cell.Bitmap i) word }
 moved z a s (Make at g d t) = record s {
-  words = put s.words (cell.Alloc (at / 64)) (bit_or (s.words (cell.Alloc (at / 64))) (2 ^ (at % 64)));
+  words = put s.words (Cell.Alloc (at / 64)) (bit_or (s.words (Cell.Alloc (at / 64))) (2 ^ (at % 64)));
   place = placed_at s.place (next_name s.ever g) at;
-  ever = with_register (with_object z.shapes s.ever g t) g d (ever.Ref (next_name s.ever g));
+  ever = with_register (with_object z.shapes s.ever g t) g d (EverValue.Ref (next_name s.ever g));
 }
-moved z a s (Write n k value word) = record s { words = put s.words (cell.Field (s.place n + k)) word; ever = with_field s.ever n k value }
-moved z a s (WriteGlobal k value word) = record s { words = put s.words (cell.Global k) word; ever = with_global s.ever k value }
+moved z a s (Write n k value word) = record s { words = put s.words (Cell.Field (s.place n + k)) word; ever = with_field s.ever n k value }
+moved z a s (WriteGlobal k value word) = record s { words = put s.words (Cell.Global k) word; ever = with_global s.ever k value }
 
 abbrev pub swept : Shared → Sweep → Shared
-swept s (Renumber p h number) = record s { words = put s.words (cell.Page p) (head_word (numbered_by number h)) }
-swept s (Thin i marks) = record s { words = put s.words (cell.Alloc i) (bit_and (s.words (cell.Alloc i)) marks) }
+swept s (Renumber p h number) = record s { words = put s.words (Cell.Page p) (head_word (numbered_by number h)) }
+swept s (Thin i marks) = record s { words = put s.words (Cell.Alloc i) (bit_and (s.words (Cell.Alloc i)) marks) }
 
 -- When a seat may make the move: by its rights, and by words that these let it rely on.
 
@@ -121,7 +116,7 @@ pub record GoroutineRuns (z : Arena) (v : View) (a g : ℕ) : Type 0 where
 
 -- a value that a register, a field or a global may take: it names nothing, or what a script reaches
 abbrev pub IsReached : Ever → EverValue → Type 0
-IsReached e (ever.Ref n) = Reach e n
+IsReached e (EverValue.Ref n) = Reach e n
 IsReached e _ = Unit {0}
 
 -- the bits of the word that are not the slot's are as they were

@@ -1,14 +1,7 @@
 -- The shared state: the words, each actor's rights to change them, and the ghosts beside them; and what holds of it at every moment.
 use Rattle.std.specs.Prelude.{◌≡◌, ◌≢◌, ℕ, ◌+◌, ◌^◌, ◌<◌, ◌≤◌, Bool, true, List, ◌↔◌, Option, Some, None}
-use Rattle.gh_base.specs.declared.cell.Cell.TheVariants as cell
+use Rattle.gh_heap.specs.Vocabulary.{alloc_words, birth_words, bitmap_words, Cell, Ever, field_words, global_words, Head, page_of, page_words, Row, row_bit, Shape, SpanHead, Words}
 use Rattle.gh_base.specs.declared.layout.Layout.{Layout}
-use Rattle.gh_base.specs.declared.pack.PageWord.TheVariants.{Head}
-use Rattle.gh_base.specs.declared.pack.SpanHead.{SpanHead}
-use Rattle.gh_base.specs.declared.shape.Shape.{Shape}
-use Rattle.gh_base.specs.Cells.{Words}
-use Rattle.gh_base.specs.Packing.{page_of}
-use Rattle.gh_base.specs.Rows.{Row, row_bit, page_words, alloc_words, bitmap_words, birth_words, field_words, global_words}
-use Rattle.gh_model.specs.Ever.{Ever}
 use Rattle.gh_heap.specs.Objects.{Place, BitsGood, ReachedGood, SlotsGood, PointersGood, FieldsGood, GlobalsGood, NamesGood}
 use Rattle.gh_heap.specs.Spans.{FitsIn, IsSpan, IsSlotOf, IsFull, IsInUse, IsEmpty, owner_at, Laying, LaidOut, Freeing, BeingFreed}
 
@@ -47,8 +40,8 @@ pub record View : Type 0 where
 
 abbrev pub view : Shared → View
 view s = record {
-  lock = s.words cell.Lock;
-  generation = s.words cell.Gen;
+  lock = s.words Cell.Lock;
+  generation = s.words Cell.Gen;
   page = page_words s.words;
   alloc = alloc_words s.words;
   bitmap = bitmap_words s.words;

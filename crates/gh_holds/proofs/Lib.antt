@@ -1,1 +1,2 @@
 pub mod AllActors
+pub mod Vocabulary

@@ -1,25 +1,13 @@
 -- What holds after every list of all actors, by the coordinator's stage: while no cycle is under way, spans being swept or not, nobody marks; while a cycle is opened the world is stopped; and while it is marked it is known to marking.
 use Rattle.std.specs.Prelude.{◌≡◌, ℕ, ◌+◌, ◌^◌, ◌<◌, ◌⊎◌, true, List, None}
-use Rattle.gh_base.specs.declared.cell.Cell.TheVariants as cell
-use Rattle.gh_base.specs.declared.pack.TheConstants.{END}
-use Rattle.gh_coord.specs.declared.close.CloseStage.{CloseStage}
-use Rattle.gh_coord.specs.declared.close.CloseStage.TheVariants as closing
-use Rattle.gh_coord.specs.declared.coord.CoordStage.TheVariants.{Check, Close, Count, Done, LoadAck, LoadWant, MarkOn, Open, Stop, StopAgain, Sweep, Tell, Watch}
+use Rattle.gh_holds.specs.Vocabulary.{alloc_at, alloc_words, Arena, arena, Cell, Check, Close, CloseStage, Coordinating, CoordStage, Count, CycleEnd, Done, END, EndsCycle, Entry, ever, freed_at, FullOnlyThere, generation_of, in_all, IsLed, IsMade, IsPlacedAt, IsStartOf, IsUnderWay, kept_at, live_at, LoadAck, LoadWant, mark_words, MarkOn, marks_at, Name, Op, Open, opening_words, Processor, row_bit, Setup, Stop, StopAgain, Sweep, Tell, TellStage, Watch, Words, words}
 use Rattle.gh_coord.specs.declared.count.CountStage.{CountStage}
-use Rattle.gh_coord.specs.declared.count.CountStage.TheVariants as counting
 use Rattle.gh_coord.specs.declared.open.OpenStage.{OpenStage}
-use Rattle.gh_coord.specs.declared.open.OpenStage.TheVariants as opening
 use Rattle.gh_coord.specs.declared.sweep_all.SweepAllStage.{SweepAllStage}
-use Rattle.gh_coord.specs.declared.sweep_all.SweepAllStage.TheVariants as all
-use Rattle.gh_coord.specs.declared.tell.TellStage.{TellStage}
-use Rattle.gh_coord.specs.declared.tell.TellStage.TheVariants as telling
 use Rattle.gh_coord.specs.SweepingAll as over
 use Rattle.gh_sweep.specs.Facts.{HasNotNumber}
-use Rattle.gh_sweep.specs.Shared.{freed_at, in_all, kept_at, live_at}
-use Rattle.gh_marked.specs.HoldVocabulary.{alloc_at, alloc_words, arena, Arena, Coordinating, CoordStage, CycleEnd, EndsCycle, Entry, ever, FullOnlyThere, generation_of, IsAsItEnded, IsLed, IsMade, IsPlacedAt, IsStartOf, mark_words, marks_at, MarksNothing, Name, Op, opening_words, PassedBefore, Processor, row_bit, State, SweepingAll, TallyWord, Words, words}
+use Rattle.gh_marked.specs.HoldVocabulary.{IsAsItEnded, MarksNothing, PassedBefore, State, SweepingAll, TallyWord}
 use Rattle.gh_marked.specs.State as state
-use Rattle.gh_marked.specs.State.{IsUnderWay}
-use Rattle.gh_lists.specs.Handshake.{Setup}
 use Rattle.gh_holds.specs.Objects.{AllWereCounted, EndsAllMarked, FreesTheUnreached}
 
 -- The coordinator goes over all pages, and sweeps each span that nobody sweeps yet.
@@ -27,20 +15,20 @@ use Rattle.gh_holds.specs.Objects.{AllWereCounted, EndsAllMarked, FreesTheUnreac
 module _ (s : State) where
   -- the span that begins there is not unswept: its head has another number, or none begins there any more
   abbrev pub IsBegun : (page : ℕ) → Type 0
-  IsBegun page = (number : ℕ) → number + 2 ≡ generation_of s.end → HasNotNumber number (s.heap.words (cell.Page page))
+  IsBegun page = (number : ℕ) → number + 2 ≡ generation_of s.end → HasNotNumber number (s.heap.words (Cell.Page page))
 
   -- of a span whose sweep another has begun it waits for the end
   abbrev pub WalksAt : SweepAllStage → Type 0
-  WalksAt (all.LoadPage page) = page < s.end.layout.pages
-  WalksAt (all.Sweep page m) = (page < s.end.layout.pages) × (m.page ≡ page)
-  WalksAt (all.Await page) = (page < s.end.layout.pages) × IsBegun page
-  WalksAt all.Ended = Unit {0}
+  WalksAt (SweepAllStage.LoadPage page) = page < s.end.layout.pages
+  WalksAt (SweepAllStage.Sweep page m) = (page < s.end.layout.pages) × (m.page ≡ page)
+  WalksAt (SweepAllStage.Await page) = (page < s.end.layout.pages) × IsBegun page
+  WalksAt SweepAllStage.Ended = Unit {0}
 
   abbrev pub page_at : SweepAllStage → ℕ
-  page_at (all.LoadPage page) = page
-  page_at (all.Sweep page m) = page
-  page_at (all.Await page) = page
-  page_at all.Ended = s.end.layout.pages
+  page_at (SweepAllStage.LoadPage page) = page
+  page_at (SweepAllStage.Sweep page m) = page
+  page_at (SweepAllStage.Await page) = page
+  page_at SweepAllStage.Ended = s.end.layout.pages
 
   -- the spans that begin before its page are swept, whoever swept them
   pub record Walks (w : SweepingAll) : Type 0 where
@@ -50,16 +38,16 @@ module _ (s : State) where
 
 -- how far the words are prepared for marking while a cycle is opened
 abbrev pub HasCursor : (cursor : ℕ) → OpenStage → Type 0
-HasCursor cursor opening.ClearWant = Unit {0}
-HasCursor cursor opening.ClearGcur = Unit {0}
+HasCursor cursor OpenStage.ClearWant = Unit {0}
+HasCursor cursor OpenStage.ClearGcur = Unit {0}
 HasCursor cursor _ = cursor ≡ 0
 
 -- and the counts of the last sweep are cleared
 abbrev pub HasCleared : (tally live : ℕ) → OpenStage → Type 0
-HasCleared tally live opening.ClearWant = Unit {0}
-HasCleared tally live opening.ClearGcur = Unit {0}
-HasCleared tally live opening.ClearTally = Unit {0}
-HasCleared tally live opening.ClearLive = tally ≡ 0
+HasCleared tally live OpenStage.ClearWant = Unit {0}
+HasCleared tally live OpenStage.ClearGcur = Unit {0}
+HasCleared tally live OpenStage.ClearTally = Unit {0}
+HasCleared tally live OpenStage.ClearLive = tally ≡ 0
 HasCleared tally live _ = (tally ≡ 0) × (live ≡ 0)
 
 module _ (setup : Setup) where
@@ -112,8 +100,8 @@ module _ (setup : Setup) where
 
   -- Nobody marks: no buffer has an entry, each stack was scanned in a cycle before this one, if at all, and each processor knows of no marking.
   pub record NobodyMarks (es : List (Entry Op)) (cycle : ℕ) (words : Words) : Type 0 where
-    pub buffers : (b : ℕ) → words (cell.Buffer b) ≡ 0
-    pub stacks : (g : ℕ) → (words (cell.Scanned g) < cycle) ⊎ (words (cell.Scanned g) ≡ END)
+    pub buffers : (b : ℕ) → words (Cell.Buffer b) ≡ 0
+    pub stacks : (g : ℕ) → (words (Cell.Scanned g) < cycle) ⊎ (words (Cell.Scanned g) ≡ END)
     pub processors : (a : ℕ) → a < setup.layout.procs → MarksNothing (processor_at es a)
 
   -- No cycle is under way. The spans that begin before this page are swept.
@@ -139,7 +127,7 @@ module _ (setup : Setup) where
   pub record IsReady (es : List (Entry Op)) (c : Coordinating) : Type 0 where
     pub has : HasState es
     pub under_way : IsUnderWay has.state
-    pub marks : (i : ℕ) → has.state.heap.words (cell.Mark i) ≡ 0
+    pub marks : (i : ℕ) → has.state.heap.words (Cell.Mark i) ≡ 0
     pub nobody : NobodyMarks es c.begun has.state.heap.words
 
   -- what it has read is what was counted: the objects that were marked where the cycle ended, and the others
@@ -148,9 +136,9 @@ module _ (setup : Setup) where
     pub freed : t.freed ≡ in_all e (freed_at e)
 
   abbrev pub HasRead : CycleEnd → CountStage → Type 0
-  HasRead e counting.LoadTally = Unit {0}
-  HasRead e (counting.LoadLive t) = IsRead e t
-  HasRead e (counting.Ended t) = Unit {0}
+  HasRead e CountStage.LoadTally = Unit {0}
+  HasRead e (CountStage.LoadLive t) = IsRead e t
+  HasRead e (CountStage.Ended t) = Unit {0}
 
   -- the cycle is swept, and the bytes that the coordinator keeps are those of the objects marked
   pub record IsTold (es : List (Entry Op)) (c : Coordinating) : Type 0 where
@@ -161,7 +149,7 @@ module _ (setup : Setup) where
   -- By the coordinator's stage.
 
   abbrev pub IsOpening : List (Entry Op) → Coordinating → OpenStage → Type 0
-  IsOpening es c stage = IsReady es c × HasCursor (words setup es cell.Gcur) stage × HasCleared (words setup es cell.Tally) (words setup es cell.Live) stage
+  IsOpening es c stage = IsReady es c × HasCursor (words setup es Cell.Gcur) stage × HasCleared (words setup es Cell.Tally) (words setup es Cell.Live) stage
 
   pub record IsCounting (es : List (Entry Op)) (c : Coordinating) (stage : CountStage) : Type 0 where
     pub quiet : IsQuiet es c
@@ -170,12 +158,12 @@ module _ (setup : Setup) where
 
   -- It has stored the next sweep generation: each span is unswept, or begun to be swept, until the walk begins.
   abbrev pub IsClosing : List (Entry Op) → Coordinating → CloseStage → Type 0
-  IsClosing es c closing.StorePhase = IsSweeping es c (over.opening c.generation)
-  IsClosing es c closing.Ended = ⊥
+  IsClosing es c CloseStage.StorePhase = IsSweeping es c (over.opening c.generation)
+  IsClosing es c CloseStage.Ended = ⊥
   IsClosing es c _ = Unit {0}
 
   abbrev pub IsTelling : List (Entry Op) → Coordinating → TellStage → Type 0
-  IsTelling es c telling.Ended = ⊥
+  IsTelling es c TellStage.Ended = ⊥
   IsTelling es c _ = IsTold es c
 
   module _ (es : List (Entry Op)) (c : Coordinating) where

@@ -1,20 +1,12 @@
 -- What holds after every list of steps of all actors, whatever the coordinator's stage: the one state of the heap and its sweep, what is known while a cycle is marked, and what has become of objects.
 use Rattle.std.specs.Prelude.{◌≡◌, ◌≤◌, List}
-use Rattle.gh_base.specs.declared.limits.TheConstants.{MOST_STATEMENTS}
+use Rattle.gh_holds.specs.Vocabulary.{Coordinating, Done, Entry, Given, HasState, IsInCycle, IsInLimits, IsLed, IsMarking, IsTelling, Legal, MOST_STATEMENTS, Op, Setup, setup_for, ShapesAreGood, those, total, words}
 use Rattle.gh_coord.specs.Handshake as leading
-use Rattle.gh_coord.specs.declared.coord.CoordStage.TheVariants.{Done}
-use Rattle.gh_mutator_heap.specs.Facts.{ShapesAreGood}
 use Rattle.gh_holds.specs.ActorsHold.{Holds}
-use Rattle.gh_marked.specs.State.{HasState, IsInCycle, IsMarking}
 use Rattle.gh_marked.specs.Drawn.{CycleIsDrawn}
-use Rattle.gh_lists.specs.Handshake.{those, Setup}
-use Rattle.gh_lists.specs.Lists.{IsLed, IsTelling, words, Given, setup_for}
-use Rattle.gh_lists.specs.Marking.{IsInLimits}
 use Rattle.gh_holds.specs.Objects.{FreesWithinTwo, LeavesTheReached, StandsSoFar, StandsUntilItsEnd}
 use Rattle.gh_marked.specs.Scanned.{FewAreScanned, GlobalsAreCounted}
 use Rattle.gh_marked.specs.Spans.{PagesAreForTypes}
-use Rattle.gh_marked.specs.Vocabulary.{Coordinating, Entry, Legal, Op}
-use Rattle.gh_lists.specs.Wants.{total}
 
 module _ (setup : Setup) where
   -- where the coordinator tells that a cycle is swept, it has begun

@@ -1,29 +1,21 @@
 -- At each stage of the coordinator there is the one state of the heap and its sweep.
 use Rattle.std.proofs.Common.{◌≡◌, true, refl, List}
-use Rattle.gh_coord.specs.declared.coord.CoordStage.{CoordStage}
-use Rattle.gh_coord.specs.declared.close.CloseStage.{CloseStage}
-use Rattle.gh_coord.specs.declared.close.CloseStage.TheVariants as closing
-use Rattle.gh_coord.specs.declared.coord.CoordStage.TheVariants.{Check, Close, Count, Done, MarkOn, Open, StopAgain, Sweep, Tell, Watch}
-use Rattle.gh_coord.specs.declared.tell.TellStage.{TellStage}
-use Rattle.gh_coord.specs.declared.tell.TellStage.TheVariants as telling
+use Rattle.gh_holds.specs.Vocabulary.{Check, Close, CloseStage, Coordinating, CoordStage, Count, Done, Entry, HasState, IsMarking, MarkOn, Op, Open, Setup, StopAgain, Sweep, Tell, TellStage, Watch}
 use Rattle.gh_coord.specs.Closing as close
 use Rattle.gh_coord.specs.Handshake as leading
 use Rattle.gh_holds.specs.ActorsHold.{HoldsAt, IsClosing, IsTelling}
-use Rattle.gh_marked.specs.State.{HasState, IsMarking}
-use Rattle.gh_marked.specs.LemmaVocabulary.{Coordinating, Entry, Op}
 use Rattle.gh_lists.specs.Going.{ClosingIsBusy}
-use Rattle.gh_lists.specs.Handshake.{Setup}
 
 module _ (setup : Setup) (es : List (Entry Op)) (c : Coordinating) where
   told_has : (p : TellStage) → IsTelling setup es c p → HasState setup es
-  told_has telling.StoreTrigger h = h.quiet.has
-  told_has telling.Ended h = absurd h
+  told_has TellStage.StoreTrigger h = h.quiet.has
+  told_has TellStage.Ended h = absurd h
   told_has _ h = h.quiet.has
 
   closing_has : (p : CloseStage) → close.is_busy p ≡ true → (close.is_marking p ≡ true → IsMarking setup es) → IsClosing setup es c p → HasState setup es
-  closing_has closing.StorePhase going marked h = h.has
-  closing_has closing.Ended going marked h = absurd h
-  closing_has closing.LoadBank going marked h = (marked refl).known.has
+  closing_has CloseStage.StorePhase going marked h = h.has
+  closing_has CloseStage.Ended going marked h = absurd h
+  closing_has CloseStage.LoadBank going marked h = (marked refl).known.has
   closing_has _ going marked h = (marked refl).known.has
 
   pub has_at : (p : CoordStage) → ClosingIsBusy p → (leading.Marks p → IsMarking setup es) → HoldsAt setup es c p → HasState setup es

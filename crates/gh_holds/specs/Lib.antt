@@ -5,3 +5,4 @@ pub mod HasAt
 pub mod Objects
 pub mod OfLists
 pub mod Standing
+pub mod Vocabulary

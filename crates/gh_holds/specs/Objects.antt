@@ -1,27 +1,14 @@
 -- What becomes of objects in lists of steps of all actors: which are marked where a cycle's marking ends, which stand until then, which are freed, and which are counted and left.
 use Rattle.std.specs.Prelude.{◌≡◌, ◌↔◌, ℕ, ◌+◌, ◌*◌, ◌<◌, ◌≤◌, true, List, ◌∷◌, slice_get, Some, ◌⊎◌}
-use Rattle.gh_marked.specs.Vocabulary.{Entry, Ever, Name, Op, opening_words, Reach, row_bit, Words}
-use Rattle.gh_base.specs.declared.cell.Cell.TheVariants as cell
-use Rattle.gh_base.specs.declared.pack.TheConstants.{END}
-use Rattle.gh_base.specs.Rows.{alloc_words, mark_words, page_words}
-use Rattle.gh_coord.specs.declared.coord.CoordStage.{CoordStage}
-use Rattle.gh_coord.specs.declared.coord.CoordStage.TheVariants.{Done, Tell}
+use Rattle.gh_holds.specs.Vocabulary.{alloc_words, Arena, arena_of, at_seat, Cell, Coordinating, CoordStage, Done, END, EndsClean, Entry, Ever, IsEnding, IsMade, IsPlacedAt, IsStartOf, IsStateOf, mark_words, Name, Op, opening_words, page_words, placed, Reach, row_bit, Setup, StandsForThese, Tell, Words}
 use Rattle.gh_coord.specs.declared.cycles.Cycle.{Cycle as CycleNumbers}
 use Rattle.gh_coord.specs.Handshake as leading
-use Rattle.gh_coord.specs.Listing.{Coordinating}
-use Rattle.gh_heap.specs.Objects.{IsMade}
-use Rattle.gh_heap.specs.Rights.{Arena}
 use Rattle.gh_marks.specs.Colours.{Cycle, Shared}
 use Rattle.gh_marks.specs.Seats.{Hands, nothing}
 use Rattle.gh_sweep.specs.Counts.{AreWords, count_below, is_set, marked_objects, unmarked_objects}
 use Rattle.gh_state.specs.Slots.{slot_row}
-use Rattle.gh_sweep.specs.Shared.{placed}
-use Rattle.gh_lists.specs.Marking.{EndsClean, IsStartOf, IsStateOf}
-use Rattle.gh_lists.specs.Processors.{arena_of, at_seat, IsPlacedAt, StandsForThese}
 use Rattle.gh_marked.specs.Tied.{IsTied}
-use Rattle.gh_lists.specs.Lists.{IsEnding}
 use Rattle.gh_lists.specs.Lists as lists
-use Rattle.gh_lists.specs.Handshake.{Setup}
 
 -- all objects that stand
 abbrev pub standing_objects : Words → (pages : ℕ) → ℕ
@@ -77,9 +64,9 @@ module _ (setup : Setup) where
     pub tied : IsTied setup es cycle shared
     pub clean : EndsClean cycle shared
     -- the cursor is past the globals, the word of each stack is the cycle's or END, no buffer has an entry, and no actor has anything in hand
-    pub cursor : setup.layout.globals ≤ words es cell.Gcur
-    pub stacks : (g : ℕ) → g < setup.layout.goroutines → (words es (cell.Scanned g) ≡ c.begun) ⊎ (words es (cell.Scanned g) ≡ END)
-    pub buffers : (b : ℕ) → words es (cell.Buffer b) ≡ 0
+    pub cursor : setup.layout.globals ≤ words es Cell.Gcur
+    pub stacks : (g : ℕ) → g < setup.layout.goroutines → (words es (Cell.Scanned g) ≡ c.begun) ⊎ (words es (Cell.Scanned g) ≡ END)
+    pub buffers : (b : ℕ) → words es (Cell.Buffer b) ≡ 0
     pub hands : (a : ℕ) → Hands a shared nothing
     pub reached : (n : Name) → Reach (ever es) n → IsMarkedObject (words es) n
     -- so no script reaches an object that is placed and not marked
@@ -138,8 +125,8 @@ module _ (setup : Setup) where
 
   -- What the words of the counts say: while a cycle is marked nothing, and where one is told the bytes that the coordinator keeps.
   pub record CountsAreSaid (es : List (Entry Op)) (c : Coordinating) : Type 0 where
-    pub cleared : leading.Marks c.stage → (words es cell.Tally ≡ 0) × (words es cell.Live ≡ 0)
-    pub live : IsTold c.stage → words es cell.Live ≡ c.live
+    pub cleared : leading.Marks c.stage → (words es Cell.Tally ≡ 0) × (words es Cell.Live ≡ 0)
+    pub live : IsTold c.stage → words es Cell.Live ≡ c.live
 
   -- Once all is over every goroutine has ended, so a script reaches what the globals reach. The objects that stand are those, and so were those that the last cycle marked; and the bytes that the coordinator keeps are theirs.
   pub record LeavesTheReached (es : List (Entry Op)) (c : Coordinating) : Type 0 where

@@ -1,16 +1,9 @@
 -- What the laws of lists say of the lists of this heap.
 use Rattle.std.proofs.Common.{◌∷◌, ◌≤◌, List}
-use Rattle.gh_base.specs.declared.limits.TheConstants.{MOST_STATEMENTS}
-use Rattle.gh_lists.specs.Lists.{EveryListOpensFew, Given, setup_for}
+use Rattle.gh_holds.specs.Vocabulary.{Entry, EveryListCountsWants, EveryListKeepsIt, EveryListOpensFew, EveryStepKeepsIt, Given, IsInLimits, Known, Legal, ListsKnown, MOST_STATEMENTS, Op, setup_for, ShapesAreGood, those, total}
 use Rattle.gh_lists.specs.Counts.{EveryListCountsPlainly}
-use Rattle.gh_lists.specs.Handshake.{EveryListKeepsIt, EveryStepKeepsIt, those}
-use Rattle.gh_marked.specs.LemmaVocabulary.{Entry, Legal, Op}
 use Rattle.gh_lists.specs.Numbers.{EveryListCountsCycles, IsFew}
 use Rattle.gh_lists.specs.Waits.{EveryListNumbersStacks, EveryListRestsWorkers, EveryStepNumbersStacks}
-use Rattle.gh_lists.specs.Wants.{EveryListCountsWants, total}
-use Rattle.gh_marked.specs.Known.{Known, ListsKnown}
-use Rattle.gh_lists.specs.Marking.{IsInLimits}
-use Rattle.gh_mutator_heap.specs.Facts.{ShapesAreGood}
 use Rattle.gh_lists.specs.Changes.{EveryStepChangesNumbers, NoNumberFalls}
 
 pub record LawsOfLists : Type 0 where

@@ -1,13 +1,10 @@
 -- A state of the heap of a list says that the words stand for the heap that never frees, whatever the coordinator's stage.
 use Rattle.std.proofs.Common.{◌≡◌, ℕ, ◌+◌, ◌^◌, ◌<◌, Bool, eqb, sym, ap, subst, ◌∙◌, arith, List}
+use Rattle.gh_holds.specs.Vocabulary.{alloc_words, Arena, arena, birth_words, Entry, Ever, ever, Good, HasState, Heap, Holds, IsHeapOf, IsInLimits, IsMade, IsOf, IsPlacedAt, Known, Name, Op, Placed, points, Processor, processor_at, Reach, row_bit, Setup, size_for, StandsFor, StandsForThese, view, Words, words}
 use Rattle.gh_heap.specs.Laws.{HeapIsApart}
-use Rattle.gh_heap.specs.Objects.{Holds, points, size_for}
 use Rattle.gh_holds.specs.Objects.{AreNamed, StandApart}
-use Rattle.gh_lists.specs.Processors.{StandsFor, StandsForThese}
-use Rattle.gh_marked.specs.LemmaVocabulary.{alloc_words, Arena, arena, birth_words, bit, Entry, Ever, ever, Good, HasState, Heap, IsHeapOf, IsInLimits, IsMade, IsOf, IsPlacedAt, KnowsAtAnyTime, mod_below, Name, Op, Placed, Processor, processor_at, Reach, row_bit, view, Words, words}
-use Rattle.gh_marked.specs.Known.{Known}
+use Rattle.gh_marked.specs.LemmaVocabulary.{bit, KnowsAtAnyTime, mod_below}
 use Rattle.gh_lists.specs.Names.{placed_there, same_birth_same_name}
-use Rattle.gh_lists.specs.Handshake.{Setup}
 
 bit_is : (b : Bool) → eqb (bit b) 1 ≡ b
 bit_is b = grind arith

@@ -10,7 +10,6 @@ ghost use Rattle.gh_holds.specs.EveryList.{EveryListHolds};
 ghost use Rattle.gh_marked.specs.Known.{Known};
 ghost use Rattle.gh_holds.specs.OfLists.{LawsOfLists};
 
-use gh_assist::laws::taking_and_scanning_are_within;
 use gh_base::laws::{
     a_step_changes_one_cell, footprints_hold, packed_words_are_read_back, rows_are_written,
 };
@@ -57,7 +56,7 @@ use gh_sweep::laws::bits_are_objects;
 use gh_tri::{an_opening_has_the_invariants, each_step_keeps_the_invariants};
 use gh_worker::laws::{
     a_worker_writes_its_own, calm_workers_mark_nothing, workers_are_routines, workers_keep_places,
-    workers_run_sweeps,
+    workers_run_sweeps, workers_stay_within,
 };
 
 /// After every legal list of steps of all actors, in every order: there is the one state of the heap and its sweep, and what holds
@@ -119,7 +118,7 @@ pub fn every_list_holds()
     workers_are_routines();
     workers_keep_places();
     a_worker_writes_its_own();
-    taking_and_scanning_are_within();
+    workers_stay_within();
     calm_workers_mark_nothing();
     reach_is_decided();
     bounds_last();

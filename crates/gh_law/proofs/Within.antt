@@ -1,4 +1,3 @@
 pub mod Actors
 pub mod Lists
 pub mod Processors
-pub mod Workers

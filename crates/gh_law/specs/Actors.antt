@@ -1,33 +1,22 @@
 -- Lists of steps of all actors of a heap, the newest first: processors, workers and the coordinator. Which are legal, and what every legal one keeps: the words stand for the heap that never frees, each cycle frees what no script reached where it began, and who waits for a cycle goes on once one that began later is swept.
 use Rattle.std.specs.Prelude.{◌≡◌, ℕ, ◌<◌, ◌≤◌, true, List, [], ◌∷◌, ◌++◌, Option, Some}
-use Rattle.gh_law.specs.Vocabulary.{Act, Actor, by, cell_of, deeds, Entry, Ever, InRange, Legal, Op, opening_words, processor_kind, started, Words}
-use Rattle.gh_base.specs.declared.limits.TheConstants.{MOST_STATEMENTS}
-use Rattle.gh_base.specs.declared.operation.Op.TheVariants as op
-use Rattle.gh_base.specs.declared.value.Answer.TheVariants as answer
-use Rattle.gh_base.specs.Cells.{seats_of}
-use Rattle.gh_base.specs.Lists.{Begins}
+use Rattle.gh_law.specs.Vocabulary.{Actor, actors, actors_after, arena_of, asks, before_step, Begins, begun_in, by, Coordinating, Done, Entry, Ever, FewAreScanned, Given, GlobalsAreCounted, InRange, is_busy, IsInLimits, IsStartOf, Legal, ListStands, MOST_STATEMENTS, Op, opening_words, seats_of, Setup, setup_for, ShapesAreGood, started, those, total, Words}
+use Rattle.gh_mutator.specs.Listing.{Act, gives}
+use Rattle.gh_base.specs.Steps.{cell_of}
+use Rattle.gh_mutator.specs.Deeds.{deeds, processor_kind}
+use Rattle.gh_base.specs.declared.value.Answer.{Answer}
 use Rattle.gh_base.specs.Orders.{done_at}
-use Rattle.gh_coord.specs.declared.coord.CoordStage.TheVariants.{Done}
 use Rattle.gh_coord.specs.Handshake as leading
-use Rattle.gh_coord.specs.Listing.{Coordinating}
 use Rattle.gh_heap.specs.Rights.{Arena}
-use Rattle.gh_mutator_heap.specs.Facts.{ShapesAreGood}
-use Rattle.gh_mutator.specs.Listing.{gives}
 use Rattle.gh_law.specs.Asked.{AllWereAsked, WasOpened}
 use Rattle.gh_lists.specs.Counts.{CountsPlainly}
-use Rattle.gh_holds.specs.Below.{CycleIsDrawn, FewAreScanned, GlobalsAreCounted, HeapIsCounted, SpansStand}
-use Rattle.gh_lists.specs.Handshake.{actors, asks, is_busy, those, Setup}
-use Rattle.gh_lists.specs.Marking.{actors_after, IsInLimits, IsStartOf}
-use Rattle.gh_lists.specs.Order.{before_step, begun_in}
-use Rattle.gh_lists.specs.Processors.{arena_of, ListStands}
+use Rattle.gh_holds.specs.Below.{CycleIsDrawn, HeapIsCounted, SpansStand}
 use Rattle.gh_law.specs.Phases.{PhasesStand}
 use Rattle.gh_law.specs.Scans.{ScansOnce}
 use Rattle.gh_law.specs.SweepMarks.{SweepsStand}
-use Rattle.gh_lists.specs.Wants.{total}
 use Rattle.gh_lists.specs.Lists as lists
 use Rattle.gh_holds.specs.Objects.{AreNamed}
 use Rattle.gh_holds.specs.Objects as objects
-use Rattle.gh_lists.specs.Lists.{Given, setup_for}
 
 -- A heap that is set up so.
 module _ (setup : Setup) where
@@ -105,8 +94,8 @@ module _ (setup : Setup) where
 
   -- Where a `gc` acts with this entry it is answered `swept` with it, and has waited for a cycle; and so has a `new` that acts where it finds no room.
   pub record HasAwaited (e : Entry Op) (before : List (Entry Op)) (x : Act) : Type 0 where
-    pub gc : (g : ℕ) → x.op ≡ op.Gc g → AwaitedCycle e.actor before x.op
-    pub answered : (g : ℕ) → x.op ≡ op.Gc g → gives setup.layout (before_step setup.shapes setup.layout before e) e.found ≡ Some answer.Swept
+    pub gc : (g : ℕ) → x.op ≡ Op.Gc g → AwaitedCycle e.actor before x.op
+    pub answered : (g : ℕ) → x.op ≡ Op.Gc g → gives setup.layout (before_step setup.shapes setup.layout before e) e.found ≡ Some Answer.Swept
     pub full : x.full ≡ true → AwaitedCycle e.actor before x.op
 
   abbrev pub Awaits : List (Entry Op) → Type 0

@@ -1,19 +1,12 @@
 -- Who asks for a cycle, and where one is opened: over lists of steps of all actors, the newest first.
 use Rattle.std.specs.Prelude.{◌≡◌, ℕ, ◌<◌, ◌⊎◌, true, false, List, ◌∷◌}
-use Rattle.gh_base.specs.declared.cell.Ask.TheVariants.{Or}
-use Rattle.gh_base.specs.declared.cell.Cell.TheVariants as cell
-use Rattle.gh_base.specs.declared.pack.TheConstants.{GONE}
-use Rattle.gh_coord.specs.declared.coord.CoordStage.TheVariants.{Open}
+use Rattle.gh_law.specs.Vocabulary.{acks_of, arena_of, before_step, Cell, Coordinating, Entry, GONE, IsLedBy, IsStartOf, Layout, Op, Open, Or, own, Setup, those, words_after}
 use Rattle.gh_coord.specs.declared.open.OpenStage.TheVariants.{ClearWant}
-use Rattle.gh_base.specs.Lists.{by as own}
 use Rattle.gh_mutator_writes.specs.Writing.{BeginsToWait}
 use Rattle.gh_mutator.specs.Asking.{CountsUpTo, SeesReached}
-use Rattle.gh_lists.specs.Handshake.{those, Setup}
-use Rattle.gh_lists.specs.Marking.{IsLedBy, IsStartOf}
 use Rattle.gh_lists.specs.Numbers.{opens_one}
-use Rattle.gh_lists.specs.Order.{before_step}
-use Rattle.gh_lists.specs.Processors.{arena_of}
-use Rattle.gh_law.specs.Vocabulary.{acks_of, Coordinating, CoordStage, Entry, Layout, Op, Shape, words_after}
+use Rattle.gh_coord.specs.declared.coord.CoordStage.{CoordStage}
+use Rattle.gh_base.specs.declared.shape.Shape.{Shape}
 
 -- the coordinator's next step clears the word of the request: with that a cycle is opened
 abbrev pub IsClearing : CoordStage → Type 0
@@ -46,7 +39,7 @@ module _ (setup : Setup) where
   pub record AsksForCycle (e : Entry Op) (es : List (Entry Op)) : Type 0 where
     pub by : e.actor < setup.layout.procs
     pub where_it_may : BeginsToWait (before_step setup.shapes setup.layout es e).task ⊎ SawTriggerReached setup.shapes setup.layout e.actor es
-    pub asks : e.ask ≡ Or cell.Want 1
+    pub asks : e.ask ≡ Or Cell.Want 1
 
   -- With an entry of the list a processor has asked for a cycle, and none was opened since.
   pub record WasAsked (es : List (Entry Op)) : Type 0 where
@@ -59,7 +52,7 @@ module _ (setup : Setup) where
   -- the cycle is the last: each processor has left
   pub record IsLast (es : List (Entry Op)) (c : Coordinating) : Type 0 where
     pub is_last : c.is_last ≡ true
-    pub left : (a : ℕ) → a < setup.layout.procs → words_after (those setup).opening es (cell.Ack a) ≡ GONE
+    pub left : (a : ℕ) → a < setup.layout.procs → words_after (those setup).opening es (Cell.Ack a) ≡ GONE
 
   -- With this entry behind the list the coordinator clears the word of the request: cycle k is opened. It was asked for, or is the last.
   pub record OpensCycle (k : ℕ) (e : Entry Op) (es : List (Entry Op)) : Type 0 where

@@ -1,27 +1,14 @@
 -- Credit, over every legal list of steps of all actors (Go's `bgScanCredit`): what workers have added to the bank, what was taken out of it, and what has lapsed where marking was ended. All is counted in words of the heap, and by what the list's steps do to the bank's word alone.
 use Rattle.std.specs.Prelude.{◌≡◌, ℕ, ◌+◌, ◌^◌, ◌<◌, ◌≤◌, List, [], ◌∷◌}
-use Rattle.gh_base.specs.declared.cell.Ask.{Ask}
-use Rattle.gh_base.specs.declared.cell.Ask.TheVariants.{Store}
-use Rattle.gh_base.specs.declared.cell.Cell.TheVariants as cell
-use Rattle.gh_base.specs.declared.limits.TheConstants.{MOST_STATEMENTS}
-use Rattle.gh_base.specs.Cells.{seats_of}
+use Rattle.gh_law.specs.Vocabulary.{Actor, Ask, Cell, Coordinating, Entry, Given, IsInLimits, IsLed, lapsed_at, Legal, MOST_STATEMENTS, Op, scanned_in, seats_of, Setup, setup_for, ShapesAreGood, state_of, Store, those, total, words}
 use Rattle.gh_coord.specs.Handshake as leading
-use Rattle.gh_coord.specs.Listing.{lapsed_at}
 use Rattle.gh_credit.specs.Drawing.{drawn_by}
 use Rattle.gh_credit.specs.Earning.{handed_by}
-use Rattle.gh_mutator_heap.specs.Facts.{ShapesAreGood}
 use Rattle.gh_mutator.specs.Spending.{spent_of}
-use Rattle.gh_lists.specs.declared.handshake.Actor.TheVariants as actor
-use Rattle.gh_lists.specs.Lists.{IsLed, words, Given, setup_for}
-use Rattle.gh_lists.specs.Handshake.{those, Setup}
-use Rattle.gh_lists.specs.Marking.{IsInLimits}
-use Rattle.gh_holds.specs.Below.{scanned_in}
-use Rattle.gh_law.specs.Vocabulary.{Actor, Coordinating, Entry, Legal, Op, state_of}
-use Rattle.gh_lists.specs.Wants.{total}
 
 -- by a store the word that it replaced has lapsed
 abbrev pub lapsed_by : Ask → (found : ℕ) → ℕ
-lapsed_by (Store cell.Bank value) found = found
+lapsed_by (Store Cell.Bank value) found = found
 lapsed_by _ found = 0
 
 -- The credit that was earned, spent, and has lapsed in the list.
@@ -40,12 +27,12 @@ lapsed_in (e ∷ es) = lapsed_in es + lapsed_by e.ask e.found
 
 -- the words that an actor has scanned and not handed over yet
 abbrev pub left_at : Actor → ℕ
-left_at (actor.Marks w) = w.scan_work
+left_at (Actor.Marks w) = w.scan_work
 left_at _ = 0
 
 -- and those that it has drawn from the bank
 abbrev pub spent_at : Actor → ℕ
-spent_at (actor.Runs m) = spent_of m
+spent_at (Actor.Runs m) = spent_of m
 spent_at _ = 0
 
 -- of the first n actors
@@ -63,12 +50,12 @@ module _ (setup : Setup) where
   -- nothing is left to hand over, nothing is in the bank, and the coordinator knows what has lapsed
   pub record IsSettled (es : List (Entry Op)) (c : Coordinating) : Type 0 where
     pub none_left : left_among (at es) (seats_of setup.layout) ≡ 0
-    pub empty : words setup es cell.Bank ≡ 0
+    pub empty : words setup es Cell.Bank ≡ 0
     pub lapsed : lapsed_in es ≡ lapsed_at c.lapsed c.stage
 
   pub record CreditStands (es : List (Entry Op)) : Type 0 where
     -- at every moment what was earned was spent, has lapsed, or is in the bank
-    pub balanced : earned_in es ≡ spent_in es + lapsed_in es + words setup es cell.Bank
+    pub balanced : earned_in es ≡ spent_in es + lapsed_in es + words setup es Cell.Bank
     -- it is the words that workers have scanned, but for those that they have still to hand over
     pub scanned : scanned_in setup es ≡ earned_in es + left_among (at es) (seats_of setup.layout)
     pub few : scanned_in setup es < 2 ^ 48

@@ -1,6 +1,6 @@
 -- Names among names.
 use Rattle.std.specs.Prelude.{◌≡◌, ◌⊎◌, List, [], ◌∷◌}
-use Rattle.gh_base.specs.declared.value.Name.{Name}
+use Rattle.gh_law.specs.Vocabulary.{Name}
 
 -- the name is among these
 abbrev pub IsAmong : Name → List Name → Type 0

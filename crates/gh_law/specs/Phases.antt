@@ -1,9 +1,6 @@
 -- Phases, in every legal list of steps of all actors: what each actor knows of them, who marks and when, and that nobody but the coordinator moves in a stopped world.
 use Rattle.std.specs.Prelude.{◌≡◌, ◌≢◌, ◌↔◌, ℕ, ◌<◌, true, List, ◌∷◌, None}
-use Rattle.gh_base.specs.declared.cell.Ask.{Ask}
-use Rattle.gh_base.specs.declared.cell.Ask.TheVariants as ask
-use Rattle.gh_base.specs.declared.cell.Cell.TheVariants as cell
-use Rattle.gh_base.specs.declared.pack.TheConstants.{GONE}
+use Rattle.gh_law.specs.Vocabulary.{acks_of, Actor, actors_after, answers_of, arena_of, Ask, Cell, Coordinating, Entry, given_of, GONE, IsExact, IsLedBy, IsStartOf, only_polls, Op, opening_words, place_of, Processor, Setup, WaitsWithNone, Words, words_after}
 use Rattle.gh_phase.specs.declared.resume.ResumeStage.{ResumeStage}
 use Rattle.gh_phase.specs.declared.view.RunPhase.{RunPhase}
 use Rattle.gh_phase.specs.declared.view.RunPhase.TheVariants.{Finished, Mark}
@@ -11,16 +8,9 @@ use Rattle.gh_phase.specs.Handshake.{Resumes, stop_word, Stopped}
 use Rattle.gh_phase.specs.Shakes.{IsAwake, IsCurrent, IsParked, last_phase}
 use Rattle.gh_coord.specs.Handshake as leading
 use Rattle.gh_poll.specs.Give.{none_cached}
-use Rattle.gh_mutator.specs.ProcessorMarks.{only_polls}
 use Rattle.gh_mutator.specs.ProcessorPlaces.{party_of, stage_of}
 use Rattle.gh_worker.specs.Handshake as working
 use Rattle.gh_worker.specs.Listing.{Working}
-use Rattle.gh_lists.specs.declared.handshake.Actor.{Actor}
-use Rattle.gh_lists.specs.declared.handshake.Actor.TheVariants as actor
-use Rattle.gh_lists.specs.Handshake.{IsExact, place_of, WaitsWithNone, Setup}
-use Rattle.gh_lists.specs.Marking.{actors_after, IsLedBy, IsStartOf}
-use Rattle.gh_lists.specs.Processors.{answers_of, arena_of, given_of}
-use Rattle.gh_law.specs.Vocabulary.{acks_of, Coordinating, Entry, Op, opening_words, Processor, Words, words_after}
 
 -- The world is stopped: from where the coordinator has found the last acknowledgement of a stop until it stores a phase that is no stop.
 abbrev pub IsStopped : Coordinating → Type 0
@@ -28,10 +18,10 @@ IsStopped c = (phase : RunPhase) × (leading.post_at c.stage ≡ Stopped phase)
 
 -- the step marks: it sets a mark bit, or writes the word of a grey work buffer or an entry of one
 abbrev pub IsMarkingStep : Ask → Type 0
-IsMarkingStep (ask.Or (cell.Mark i) bits) = Unit {0}
-IsMarkingStep (ask.Store (cell.Buffer b) value) = Unit {0}
-IsMarkingStep (ask.Swap (cell.Buffer b) old new) = Unit {0}
-IsMarkingStep (ask.Store (cell.Entry b j) value) = Unit {0}
+IsMarkingStep (Ask.Or (Cell.Mark i) bits) = Unit {0}
+IsMarkingStep (Ask.Store (Cell.Buffer b) value) = Unit {0}
+IsMarkingStep (Ask.Swap (Cell.Buffer b) old new) = Unit {0}
+IsMarkingStep (Ask.Store (Cell.Entry b j) value) = Unit {0}
 IsMarkingStep _ = ⊥
 
 -- From the acknowledgement of a stop until it has gone on after it a processor runs nothing but a poll, a wait or a leave, has cached no span and holds no buffer.
@@ -53,7 +43,7 @@ module _ (setup : Setup) where
 
   -- the step behind the list finds the word of the coordinator's stop at the phase, and leaves its actor's place
   pub record FindsTheStop (e : Entry Op) (es : List (Entry Op)) (c : Coordinating) : Type 0 where
-    pub asks : e.ask ≡ ask.Load cell.Phase
+    pub asks : e.ask ≡ Ask.Load Cell.Phase
     pub found : e.found ≡ stop_word (leading.lead_of c).stops
     pub place : place_of (at (e ∷ es) e.actor) ≡ place_of (at es e.actor)
 
@@ -61,34 +51,34 @@ module _ (setup : Setup) where
     -- What each knows. An actor is awake from its opening, or from where it has gone on after a stop, until it is to acknowledge the next.
     pub record PhasesAreKnown : Type 0 where
       -- a processor knows the last phase that was no stop, and the words of the sweep generation and of the cycle as they stand
-      pub processors : (a : ℕ) (m : Processor) → at es a ≡ actor.Runs m → IsAwake (stage_of m) → IsExact (last_phase es) (told es) (party_of m).view
+      pub processors : (a : ℕ) (m : Processor) → at es a ≡ Actor.Runs m → IsAwake (stage_of m) → IsExact (last_phase es) (told es) (party_of m).view
       -- so does a worker, but once the last cycle is swept it may know still that marking is off
-      pub workers : (a : ℕ) (w : Working) → at es a ≡ actor.Marks w → IsAwake (working.stage_of w) → IsCurrent (last_phase es) (told es) (working.party_of w).view
+      pub workers : (a : ℕ) (w : Working) → at es a ≡ Actor.Marks w → IsAwake (working.stage_of w) → IsCurrent (last_phase es) (told es) (working.party_of w).view
       -- who is not awake stands empty until it has gone on, and has given each answer that its operations have had
-      pub resuming : (a : ℕ) (m : Processor) (stops : ℕ) (stage : ResumeStage) → at es a ≡ actor.Runs m → stage_of m ≡ Resumes stops stage → StandsEmpty m
-      pub answered : (a : ℕ) (m : Processor) (stops : ℕ) (stage : ResumeStage) → at es a ≡ actor.Runs m → stage_of m ≡ Resumes stops stage → answers_of (arena_of setup.shapes setup.layout) (opening_words setup.pacing.trigger) a es ≡ given_of (arena_of setup.shapes setup.layout) (opening_words setup.pacing.trigger) a es
-      pub workers_resuming : (a : ℕ) (w : Working) (stops : ℕ) (stage : ResumeStage) → at es a ≡ actor.Marks w → working.stage_of w ≡ Resumes stops stage → w.held ≡ None
+      pub resuming : (a : ℕ) (m : Processor) (stops : ℕ) (stage : ResumeStage) → at es a ≡ Actor.Runs m → stage_of m ≡ Resumes stops stage → StandsEmpty m
+      pub answered : (a : ℕ) (m : Processor) (stops : ℕ) (stage : ResumeStage) → at es a ≡ Actor.Runs m → stage_of m ≡ Resumes stops stage → answers_of (arena_of setup.shapes setup.layout) (opening_words setup.pacing.trigger) a es ≡ given_of (arena_of setup.shapes setup.layout) (opening_words setup.pacing.trigger) a es
+      pub workers_resuming : (a : ℕ) (w : Working) (stops : ℕ) (stage : ResumeStage) → at es a ≡ Actor.Marks w → working.stage_of w ≡ Resumes stops stage → w.held ≡ None
 
     -- Who marks.
     pub record MarksInPhase (c : Coordinating) : Type 0 where
       -- who is awake knows that marking is on exactly while the coordinator marks a cycle
-      pub processors : (a : ℕ) (m : Processor) → at es a ≡ actor.Runs m → IsAwake (stage_of m) → (party_of m).view.phase ≡ Mark ↔ leading.Marks c.stage
-      pub workers : (a : ℕ) (w : Working) → at es a ≡ actor.Marks w → IsAwake (working.stage_of w) → (working.party_of w).view.phase ≡ Mark ↔ leading.Marks c.stage
+      pub processors : (a : ℕ) (m : Processor) → at es a ≡ Actor.Runs m → IsAwake (stage_of m) → (party_of m).view.phase ≡ Mark ↔ leading.Marks c.stage
+      pub workers : (a : ℕ) (w : Working) → at es a ≡ Actor.Marks w → IsAwake (working.stage_of w) → (working.party_of w).view.phase ≡ Mark ↔ leading.Marks c.stage
       -- then alone a worker takes, scans or shades
-      pub working : (a : ℕ) (w : Working) → at es a ≡ actor.Marks w → working.IsMarking w.stage → leading.Marks c.stage
+      pub working : (a : ℕ) (w : Working) → at es a ≡ Actor.Marks w → working.IsMarking w.stage → leading.Marks c.stage
 
     -- The stopped world.
     pub record StandsStill (c : Coordinating) : Type 0 where
       -- each processor waits at that stop, or is gone; and each worker waits there, with no buffer held
-      pub processors : (a : ℕ) (m : Processor) → at es a ≡ actor.Runs m → IsParked (leading.lead_of c).stops (stage_of m)
-      pub workers : (a : ℕ) (w : Working) → at es a ≡ actor.Marks w → WaitsWithNone (leading.lead_of c).stops w
+      pub processors : (a : ℕ) (m : Processor) → at es a ≡ Actor.Runs m → IsParked (leading.lead_of c).stops (stage_of m)
+      pub workers : (a : ℕ) (w : Working) → at es a ≡ Actor.Marks w → WaitsWithNone (leading.lead_of c).stops w
 
     -- The last cycle.
     pub record EndsInOrder (c : Coordinating) : Type 0 where
       -- it begins once each processor is gone
-      pub begins : c.is_last ≡ true → (a : ℕ) → a < setup.layout.procs → told es (cell.Ack a) ≡ GONE
+      pub begins : c.is_last ≡ true → (a : ℕ) → a < setup.layout.procs → told es (Cell.Ack a) ≡ GONE
       -- and no worker leaves before the last phase is stored
-      pub workers_leave : (a : ℕ) (w : Working) → at es a ≡ actor.Marks w → working.IsLeaving w.stage → last_phase es ≡ Finished
+      pub workers_leave : (a : ℕ) (w : Working) → at es a ≡ Actor.Marks w → working.IsLeaving w.stage → last_phase es ≡ Finished
 
     pub record PhasesStand : Type 0 where
       pub known : PhasesAreKnown
@@ -96,7 +86,7 @@ module _ (setup : Setup) where
       pub stopped : (c : Coordinating) → IsLed es c → IsStopped c → StandsStill c
       pub last : (c : Coordinating) → IsLed es c → EndsInOrder c
       -- while no cycle is marked no buffer has an entry, and nobody holds one
-      pub buffers : (c : Coordinating) → IsLed es c → (leading.Marks c.stage → ⊥) → (b : ℕ) → told es (cell.Buffer b) ≡ 0
+      pub buffers : (c : Coordinating) → IsLed es c → (leading.Marks c.stage → ⊥) → (b : ℕ) → told es (Cell.Buffer b) ≡ 0
       -- Of every start of the list: who marks with its newest entry does so while a cycle is marked;
       pub marks : (e : Entry Op) (before : List (Entry Op)) (c : Coordinating) → IsStartOf (e ∷ before) es → IsLed before c → IsMarkingStep e.ask → leading.Marks c.stage
       -- and in a stopped world that entry is the coordinator's, or a load of the phase that finds the stop

@@ -1,6 +1,6 @@
 -- What the numbers of spans say, and which marks and objects a sweep has left, in every legal list of steps of all actors: over the words.
 use Rattle.std.specs.Prelude.{◌≡◌, ◌≢◌, ℕ, ◌+◌, ◌*◌, ◌/◌, ◌<◌, ◌≤◌, ◌⊎◌, true, false, List, Option, Some}
-use Rattle.gh_base.specs.declared.cell.Cell.TheVariants as cell
+use Rattle.gh_law.specs.Vocabulary.{actors_after, arena_of, at_seat, Cell, Coordinating, Entry, Ever, ever_after_list, IsBeginning, IsLedBy, IsPlacedAt, Name, only_polls, Op, opening_words, Processor, Reach, Setup, Words, words_after}
 use Rattle.gh_base.specs.declared.pack.PageWord.TheVariants.{Head}
 use Rattle.gh_base.specs.declared.pack.SpanHead.{SpanHead}
 use Rattle.gh_base.specs.Packing.{page_of}
@@ -14,14 +14,8 @@ use Rattle.gh_sweep.specs.Sound.{reached}
 use Rattle.gh_sweep.specs.Sweepers.{has_span}
 use Rattle.gh_coord.specs.Handshake as leading
 use Rattle.gh_mutator.specs.declared.task.Task.{Task}
-use Rattle.gh_mutator.specs.declared.task.Task.TheVariants as task
 use Rattle.gh_poll.specs.Local.{cached_in}
-use Rattle.gh_mutator.specs.ProcessorMarks.{only_polls}
-use Rattle.gh_lists.specs.Marking.{actors_after, IsBeginning, IsLedBy}
-use Rattle.gh_lists.specs.Processors.{arena_of, at_seat, ever_after_list, IsPlacedAt}
 use Rattle.gh_holds.specs.Below.{sweep_of}
-use Rattle.gh_law.specs.Vocabulary.{Coordinating, Entry, Ever, Name, Op, opening_words, Processor, Reach, Words, words_after}
-use Rattle.gh_lists.specs.Handshake.{Setup}
 
 -- Spans.
 
@@ -31,27 +25,27 @@ SaysHowFar generation h = (h.number ≡ generation) ⊎ ((h.owner ≡ 0) × ((h.
 
 -- each head says so of its span
 abbrev pub SpansAreNumbered : Words → Type 0
-SpansAreNumbered words = (p : ℕ) (h : SpanHead) → page_of (words (cell.Page p)) ≡ Head h → SaysHowFar (words cell.Gen) h
+SpansAreNumbered words = (p : ℕ) (h : SpanHead) → page_of (words (Cell.Page p)) ≡ Head h → SaysHowFar (words Cell.Gen) h
 
 -- a span that somebody owns is swept
 abbrev pub OwnedAreSwept : Words → Type 0
-OwnedAreSwept words = (p : ℕ) (h : SpanHead) → page_of (words (cell.Page p)) ≡ Head h → h.owner ≢ 0 → h.number ≡ words cell.Gen
+OwnedAreSwept words = (p : ℕ) (h : SpanHead) → page_of (words (Cell.Page p)) ≡ Head h → h.owner ≢ 0 → h.number ≡ words Cell.Gen
 
 -- each span is
 abbrev pub EachSpanIsSwept : Words → Type 0
-EachSpanIsSwept words = (p : ℕ) (h : SpanHead) → page_of (words (cell.Page p)) ≡ Head h → h.number ≡ words cell.Gen
+EachSpanIsSwept words = (p : ℕ) (h : SpanHead) → page_of (words (Cell.Page p)) ≡ Head h → h.number ≡ words Cell.Gen
 
 -- the processor rests, or runs a statement: it does not wait, poll or leave, and has not left
 pub record IsRunning (t : Task) : Type 0 where
   pub runs : only_polls t ≡ false
-  pub there : t ≢ task.Left
+  pub there : t ≢ Task.Left
 
 -- the span that begins there is this seat's, and swept
 pub record IsOwnSpan (words : Words) (a p : ℕ) : Type 0 where
   pub h : SpanHead
-  pub head : page_of (words (cell.Page p)) ≡ Head h
+  pub head : page_of (words (Cell.Page p)) ≡ Head h
   pub owner : h.owner ≡ a + 1
-  pub swept : h.number ≡ words cell.Gen
+  pub swept : h.number ≡ words Cell.Gen
 
 -- so is each span that the processor has cached
 abbrev pub CachedAreSwept : Words → (a : ℕ) → Processor → Type 0
@@ -68,9 +62,9 @@ pub record IsUncut (m : Sweeping) (i : ℕ) : Type 0 where
 -- The marks while no cycle is marked: those that a cycle has left, as far as they are not swept.
 pub record MarksAreLeft (words : Words) (ever : Ever) (sweeps : ℕ → Option Sweeping) : Type 0 where
   -- a word of marks that lies in no span, or in a swept one, is 0
-  pub cleared : (i : ℕ) → ((s : InSpan (page_words words) i) → s.h.number ≡ words cell.Gen) → words (cell.Mark i) ≡ 0
+  pub cleared : (i : ℕ) → ((s : InSpan (page_words words) i) → s.h.number ≡ words Cell.Gen) → words (Cell.Mark i) ≡ 0
   -- in an unswept span each object that a script reaches is marked
-  pub unswept : (n : Name) (a : ℕ) → Reach ever n → IsPlacedAt words n a → (s : InSpan (page_words words) (a / 64)) → s.h.number + 2 ≡ words cell.Gen → row_bit (mark_words words) a ≡ 1
+  pub unswept : (n : Name) (a : ℕ) → Reach ever n → IsPlacedAt words n a → (s : InSpan (page_words words) (a / 64)) → s.h.number + 2 ≡ words Cell.Gen → row_bit (mark_words words) a ≡ 1
   -- and so it is in a span that is being swept, in the words that the sweep has not reached
   pub uncut : (n : Name) (a who : ℕ) (m : Sweeping) → Reach ever n → IsPlacedAt words n a → sweeps who ≡ Some m → IsUncut m (a / 64) → row_bit (mark_words words) a ≡ 1
   -- what is marked is an object that stands

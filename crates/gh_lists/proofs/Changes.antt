@@ -1,26 +1,15 @@
 -- The numbers of cycles along a list: each step leaves them, or it is the coordinator's that begins a cycle, ends its marking or tells that it is swept, and one number is one cycle later.
 use Rattle.std.proofs.Common.{◌≡◌, suc, ◌+◌, refl, sym, ap, subst, ◌∙◌, arith, List, ◌∷◌}
-use Rattle.gh_base.specs.declared.cell.Ask.TheVariants.{Store}
-use Rattle.gh_base.specs.declared.cell.Cell.TheVariants as cell
-use Rattle.gh_coord.specs.declared.close.CloseStage.TheVariants as close_stage
+use Rattle.gh_lists.proofs.Vocabulary.{all_quiet, Ask, At, begins, Cell, Change, Check, Checked, Close, CloseStage, CoordStage, Count, count_quiet, Counted, CycleWords, Done, effect, ends, Entry, IsFew, IsTelling, KeepsIt, Kind, Layout, leaves, leaves_numbers, Legal, LoadAck, LoadWant, MarkOn, numbers_of, Op, Open, Opened, opened_in, OpenStage, own_counts, Part, part_of, Processor, processor_kind, ProcessorWritesItsOwn, Rises, same, Setup, Spares, started, Stop, stop_quiet, StopAgain, Store, Sweep, Tell, tells, TellStage, Watch, watch_quiet, Words, worker_quiet, WorkersWriteTheirOwn}
 use Rattle.gh_coord.specs.Closing as close
 use Rattle.gh_coord.specs.Handshake as leading
 use Rattle.gh_coord.specs.Listing as coord
 use Rattle.gh_coord.specs.Opening as opens_by
 use Rattle.gh_coord.specs.Telling as tell
 use Rattle.gh_worker.specs.Listing as worker
-use Rattle.gh_lists.specs.Lists.{IsTelling}
-use Rattle.gh_coord.specs.Parts.{Counted, Opened}
-use Rattle.gh_lists.proofs.Vocabulary.{Ask, Check, Checked, Close, CloseStage, CoordStage, Count, Done, effect, Entry, IsFew, KeepsIt, Kind, Layout, Legal, LoadAck, LoadWant, MarkOn, Op, Open, opened_in, OpenStage, Part, part_of, Processor, processor_kind, ProcessorWritesItsOwn, started, Stop, StopAgain, Sweep, Tell, TellStage, Watch, Words, WorkersWriteTheirOwn}
-use Rattle.gh_lists.specs.Frames.{CycleWords, leaves, numbers_of}
 use Rattle.gh_lists.proofs.CycleNumbers.Leading.{Is, Reads}
 use Rattle.gh_lists.proofs.CycleNumbers.Lists.{holds}
-use Rattle.gh_lists.specs.Parts.{At, own_counts}
-use Rattle.gh_lists.specs.Quiet.{all_quiet, count_quiet, stop_quiet, watch_quiet, worker_quiet}
 use Rattle.gh_lists.specs.Steps as seats
-use Rattle.gh_lists.specs.Writing.{leaves_numbers}
-use Rattle.gh_lists.specs.Changes.{Spares, Change, same, begins, ends, tells, Rises}
-use Rattle.gh_lists.specs.Handshake.{Setup}
 
 spares : (ask : Ask) → ((w : Words) → numbers_of (effect w ask) ≡ numbers_of w) → Spares ask
 spares ask h = record { gen = λ w. ap (λ (n : CycleWords). n.gen) (h w); begun = λ w. ap (λ (n : CycleWords). n.begun) (h w); swept = λ w. ap (λ (n : CycleWords). n.swept) (h w) }
@@ -28,20 +17,20 @@ spares ask h = record { gen = λ w. ap (λ (n : CycleWords). n.gen) (h w); begun
 -- what the coordinator's step is to the numbers
 pub data Does (c : coord.Coordinating) (p : CoordStage) (ask : Ask) : Type 0 where
   spares_them : Spares ask → Does c p ask
-  begins_it : part_of p ≡ Opened → ask ≡ Store cell.Begun c.begun → Does c p ask
-  ends_it : part_of p ≡ Checked → (x : close.Closing) → p ≡ Close x → x.stage ≡ close_stage.StoreGen → ask ≡ Store cell.Gen c.generation → Does c p ask
-  tells_it : part_of p ≡ Counted → IsTelling p → ask ≡ Store cell.Swept c.begun → Does c p ask
+  begins_it : part_of p ≡ Opened → ask ≡ Store Cell.Begun c.begun → Does c p ask
+  ends_it : part_of p ≡ Checked → (x : close.Closing) → p ≡ Close x → x.stage ≡ CloseStage.StoreGen → ask ≡ Store Cell.Gen c.generation → Does c p ask
+  tells_it : part_of p ≡ Counted → IsTelling p → ask ≡ Store Cell.Swept c.begun → Does c p ask
 
 module _ (l : Layout) (c : coord.Coordinating) where
   opening : (o : opens_by.CycleOpening) (p : OpenStage) → o.cycle ≡ c.begun → Does c (Open (record o { stage = p })) (opens_by.asks_at o p)
   opening o p e = grind arith
 
   closing : (x : close.Closing) (p : CloseStage) → x.generation ≡ c.generation → Does c (Close (record x { stage = p })) (close.asks_at x p)
-  closing x close_stage.LoadBank e = spares_them (record { gen = λ w. refl; begun = λ w. refl; swept = λ w. refl })
-  closing x close_stage.ClearBank e = spares_them (record { gen = λ w. refl; begun = λ w. refl; swept = λ w. refl })
-  closing x close_stage.StoreGen e = ends_it refl (record x { stage = close_stage.StoreGen }) refl refl (ap (Store cell.Gen) e)
-  closing x close_stage.StorePhase e = spares_them (record { gen = λ w. refl; begun = λ w. refl; swept = λ w. refl })
-  closing x close_stage.Ended e = spares_them (record { gen = λ w. refl; begun = λ w. refl; swept = λ w. refl })
+  closing x CloseStage.LoadBank e = spares_them (record { gen = λ w. refl; begun = λ w. refl; swept = λ w. refl })
+  closing x CloseStage.ClearBank e = spares_them (record { gen = λ w. refl; begun = λ w. refl; swept = λ w. refl })
+  closing x CloseStage.StoreGen e = ends_it refl (record x { stage = CloseStage.StoreGen }) refl refl (ap (Store Cell.Gen) e)
+  closing x CloseStage.StorePhase e = spares_them (record { gen = λ w. refl; begun = λ w. refl; swept = λ w. refl })
+  closing x CloseStage.Ended e = spares_them (record { gen = λ w. refl; begun = λ w. refl; swept = λ w. refl })
 
   telling : (t : tell.Telling) (p : TellStage) → t.cycle ≡ c.begun → Does c (Tell (record t { stage = p })) (tell.asks_at t p)
   telling t p e = grind arith
@@ -76,11 +65,11 @@ module _ (setup : Setup)
     by_lead c x h (spares_them y) = same (subst Spares (sym x.asked) y)
     by_lead c x h (begins_it part ask) =
         let at = subst (λ (q : Part). At setup.pacing.room (opened_in es) (numbers_of (words es)) (own_counts c) q) part h.at in
-        let value : c.begun ≡ suc (words es cell.Begun) = let a = at.number_is in let b = at.begun_is in omega (arith, a, b) in
-        begins (x.asked ∙ ask ∙ ap (Store cell.Begun) value)
+        let value : c.begun ≡ suc (words es Cell.Begun) = let a = at.number_is in let b = at.begun_is in omega (arith, a, b) in
+        begins (x.asked ∙ ask ∙ ap (Store Cell.Begun) value)
     by_lead c x h (ends_it part close_is stage_is stores ask) =
         let at = subst (λ (q : Part). At setup.pacing.room (opened_in es) (numbers_of (words es)) (own_counts c) q) part h.at in
-        let value : c.generation ≡ words es cell.Gen + 2 = let a = at.generation_is in let b = at.gen_is in omega (arith, a, b) in
+        let value : c.generation ≡ words es Cell.Gen + 2 = let a = at.generation_is in let b = at.gen_is in omega (arith, a, b) in
         ends (record {
           lead = c;
           led = x.is;
@@ -88,14 +77,14 @@ module _ (setup : Setup)
           at = stage_is;
           stores = stores;
           actor_is = x.seat;
-          ask_is = x.asked ∙ ask ∙ ap (Store cell.Gen) value;
+          ask_is = x.asked ∙ ask ∙ ap (Store Cell.Gen) value;
           number = let a = at.number_is in let b = at.begun_is in omega (arith, a, b);
           gen = let a = at.number_is in let b = at.gen_is in omega (arith, a, b);
         })
     by_lead c x h (tells_it part at_it ask) =
         let at = subst (λ (q : Part). At setup.pacing.room (opened_in es) (numbers_of (words es)) (own_counts c) q) part h.at in
-        let value : c.begun ≡ suc (words es cell.Swept) = let a = at.number_is in omega (arith, a) in
-        tells (record { lead = c; led = x.is; telling_it = at_it; actor_is = x.seat; ask_is = x.asked ∙ ask ∙ ap (Store cell.Swept) value; number = value })
+        let value : c.begun ≡ suc (words es Cell.Swept) = let a = at.number_is in omega (arith, a) in
+        tells (record { lead = c; led = x.is; telling_it = at_it; actor_is = x.seat; ask_is = x.asked ∙ ask ∙ ap (Store Cell.Swept) value; number = value })
 
     by : seats.Step setup e es → Change setup e es
     by (seats.by_processor m x s) = same (subst Spares (sym x.asked) (spares (k.asks (started k e.begun m)) (λ w. (leaves w (k.asks (started k e.begun m)) (leaves_numbers writes setup.layout (started k e.begun m) x.sound_then)).numbers)))

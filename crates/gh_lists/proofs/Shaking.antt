@@ -1,15 +1,7 @@
 -- Every legal list of processors, workers and a coordinator keeps the handshake.
 use Rattle.std.proofs.Common.{◌≡◌, ℕ, ◌<◌, true, false, arith}
-use Rattle.gh_base.specs.declared.operation.Op.{Op}
-use Rattle.gh_phase.specs.Handshake.{Acts, Awake, first_lead, first_party, IsHandshake, Leads, HandshakePlace, PlaceBegins, PlaceGoes}
-use Rattle.gh_coord.specs.Handshake.{LeadsHandshake}
-use Rattle.gh_coord.specs.Stopping.{acks_of}
-use Rattle.gh_mutator.specs.ProcessorPlaces.{ProcessorInHandshake}
-use Rattle.gh_mutator_writes.specs.Writing.{ProcessorWritesItsOwn}
-use Rattle.gh_worker.specs.Handshake.{WorkersKeepHandshake}
-use Rattle.gh_lists.specs.declared.handshake.Actor.{Actor}
-use Rattle.gh_lists.specs.declared.handshake.Actor.TheVariants as actor
-use Rattle.gh_lists.specs.Handshake.{Setup, asks, begins, is_busy, place_of, Sound, start, actor_takes, those}
+use Rattle.gh_lists.proofs.Vocabulary.{acks_of, Actor, actor_takes, Acts, asks, Awake, first_lead, first_party, HandshakePlace, IsHandshake, Leads, LeadsHandshake, Op, place_of, PlaceBegins, PlaceGoes, ProcessorInHandshake, ProcessorWritesItsOwn, Setup, Sound, start, those, WorkersKeepHandshake}
+use Rattle.gh_lists.specs.Handshake.{begins, is_busy}
 
 module _ (setup : Setup) (places : ProcessorInHandshake) (writes : ProcessorWritesItsOwn) (c : LeadsHandshake) (w : WorkersKeepHandshake) where
   abbrev place : Actor → HandshakePlace
@@ -22,14 +14,14 @@ module _ (setup : Setup) (places : ProcessorInHandshake) (writes : ProcessorWrit
   begun_place m o s b = grind arith
 
   taken_sound : (m : Actor) (found : ℕ) → Sound setup.layout m → is_busy m ≡ true → Sound setup.layout (actor_takes setup.shapes setup.layout m found)
-  taken_sound (actor.Runs m) found s b = writes.sound_takes setup.layout setup.shapes m found s b
-  taken_sound (actor.Marks x) found s b = (w.keeps setup.layout).stays_sound x found s b
-  taken_sound (actor.Leads x) found s b = c.stays_sound setup.layout x found s b
+  taken_sound (Actor.Runs m) found s b = writes.sound_takes setup.layout setup.shapes m found s b
+  taken_sound (Actor.Marks x) found s b = (w.keeps setup.layout).stays_sound x found s b
+  taken_sound (Actor.Leads x) found s b = c.stays_sound setup.layout x found s b
 
   taken_place : (m : Actor) (found : ℕ) → Sound setup.layout m → is_busy m ≡ true → PlaceGoes (acks_of setup.layout) found (place m) (asks setup.layout m) (place (actor_takes setup.shapes setup.layout m found))
-  taken_place (actor.Runs m) found s b = places.takes_so setup.layout setup.shapes m found s.place b
-  taken_place (actor.Marks x) found s b = (w.keeps setup.layout).goes x found s b
-  taken_place (actor.Leads x) found s b = c.goes setup.layout x found s b
+  taken_place (Actor.Runs m) found s b = places.takes_so setup.layout setup.shapes m found s.place b
+  taken_place (Actor.Marks x) found s b = (w.keeps setup.layout).goes x found s b
+  taken_place (Actor.Leads x) found s b = c.goes setup.layout x found s b
 
   first_place : (a : ℕ) → a < acks_of setup.layout → place (start setup.layout setup.pacing a) ≡ Acts (first_party a) Awake
   first_place a m = grind arith

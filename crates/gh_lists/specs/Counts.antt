@@ -1,19 +1,11 @@
 -- The numbers of cycles over every legal list of all actors, by how often the list stores each.
 use Rattle.std.specs.Prelude.{◌≡◌, ◌↔◌, ℕ, suc, ◌+◌, ◌*◌, ◌≤◌, ◌⊎◌, Bool, false, if◌then◌else◌, List, [], ◌∷◌}
-use Rattle.gh_base.specs.declared.cell.Ask.{Ask}
-use Rattle.gh_base.specs.declared.cell.Ask.TheVariants.{Store}
-use Rattle.gh_base.specs.declared.cell.Cell.{Cell}
-use Rattle.gh_base.specs.declared.cell.Cell.TheVariants as cell
-use Rattle.gh_base.specs.Cells.{same_cell}
-use Rattle.gh_coord.specs.declared.coord.CoordStage.TheVariants.{Tell}
+use Rattle.gh_lists.specs.Vocabulary.{acks_of, Actor, Ask, Cell, Coordinating, CoordStage, Entry, Legal, Op, same_cell, Setting, state_of, Store, StoreSwept, StoreTrigger, Tell, Words, words_after}
 use Rattle.gh_coord.specs.declared.tell.TellStage.{TellStage}
-use Rattle.gh_coord.specs.declared.tell.TellStage.TheVariants.{StoreSwept, StoreTrigger}
 use Rattle.gh_coord.specs.Handshake as leading
-use Rattle.gh_lists.specs.declared.handshake.Actor.TheVariants as actor
 use Rattle.gh_lists.specs.Handshake.{those, Setup}
 use Rattle.gh_lists.specs.Marking.{IsBeginning}
 use Rattle.gh_lists.specs.Numbers.{IsFew, KeepsCycles}
-use Rattle.gh_lists.specs.Vocabulary.{acks_of, Actor, Coordinating, CoordStage, Entry, Legal, Op, Setting, state_of, Words, words_after}
 
 -- the step stores this word
 abbrev pub stores_cell : Cell → Ask → Bool
@@ -45,19 +37,19 @@ module _ (s : Setting Actor Op) (room : ℕ) (es : List (Entry Op)) (c : Coordin
 
   pub record CountsPlainly : Type 0 where
     -- each number says how often it was stored
-    pub begun : words cell.Begun ≡ stored_in cell.Begun es
-    pub swept : words cell.Swept ≡ stored_in cell.Swept es
-    pub gen : words cell.Gen ≡ 2 + 2 * stored_in cell.Gen es
+    pub begun : words Cell.Begun ≡ stored_in Cell.Begun es
+    pub swept : words Cell.Swept ≡ stored_in Cell.Swept es
+    pub gen : words Cell.Gen ≡ 2 + 2 * stored_in Cell.Gen es
     -- a cycle is opened, then its number stands as begun, then its marking ends with the next sweep generation, then it is swept; and no other is opened before
-    pub opened_first : stored_in cell.Begun es ≤ stored_in cell.Want es
-    pub begun_then : stored_in cell.Gen es ≤ stored_in cell.Begun es
-    pub ended_then : stored_in cell.Swept es ≤ stored_in cell.Gen es
-    pub one_at_once : stored_in cell.Want es ≤ stored_in cell.Swept es + 1
+    pub opened_first : stored_in Cell.Begun es ≤ stored_in Cell.Want es
+    pub begun_then : stored_in Cell.Gen es ≤ stored_in Cell.Begun es
+    pub ended_then : stored_in Cell.Swept es ≤ stored_in Cell.Gen es
+    pub one_at_once : stored_in Cell.Want es ≤ stored_in Cell.Swept es + 1
     -- a number stands as begun whose marking has not ended exactly while a cycle is marked, and where the store of that phase is next
-    pub marks : stored_in cell.Begun es ≡ stored_in cell.Gen es + 1 ↔ (leading.Marks c.stage ⊎ IsBeginning c.stage)
+    pub marks : stored_in Cell.Begun es ≡ stored_in Cell.Gen es + 1 ↔ (leading.Marks c.stage ⊎ IsBeginning c.stage)
     -- The coordinator's list of cycles has them in their order, and none is left out as long as there is room: those that are swept, and the one that it is about to tell.
-    pub kept : KeepsCycles room (stored_in cell.Swept es + about_to_tell c.stage) c.cycles
+    pub kept : KeepsCycles room (stored_in Cell.Swept es + about_to_tell c.stage) c.cycles
 
 abbrev pub EveryListCountsPlainly : Type 0
 EveryListCountsPlainly = (setup : Setup) (es : List (Entry Op)) (c : Coordinating) →
-    Legal (those setup) es → IsFew es → state_of (those setup).kind (acks_of setup.layout) es ≡ actor.Leads c → CountsPlainly (those setup) setup.pacing.room es c
+    Legal (those setup) es → IsFew es → state_of (those setup).kind (acks_of setup.layout) es ≡ Actor.Leads c → CountsPlainly (those setup) setup.pacing.room es c

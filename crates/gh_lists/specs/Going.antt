@@ -1,11 +1,11 @@
 -- The coordinator is never seen where its ending of marking has ended: with its last step it goes on to sweep.
 use Rattle.std.proofs.Common.{◌≡◌, ℕ, ◌==◌, Bool, true, false, ltb, refl, sym, ap, subst, ◌∙◌, arith, List, [], ◌∷◌}
+use Rattle.gh_lists.specs.Vocabulary.{acks_of, Actor, Close, Coordinating, CoordStage, counted, Entry, goes, goes_at, Layout, LoadAck, nat_tests, Op}
 use Rattle.gh_coord.specs.Closing as close
 use Rattle.gh_coord.specs.Events.{by_event}
 use Rattle.gh_coord.specs.Handshake as leading
 use Rattle.gh_coord.specs.Listing as coord
-use Rattle.gh_lists.specs.declared.handshake.Actor.TheVariants as actor
-use Rattle.gh_lists.specs.LemmaVocabulary.{acks_of, Actor, actors_after, arena, Close, Coordinating, CoordStage, counted, Entry, goes, goes_at, IsLed, Layout, LoadAck, nat_tests, Op}
+use Rattle.gh_lists.specs.LemmaVocabulary.{actors_after, arena, IsLed}
 use Rattle.gh_lists.specs.Seats.{leads, other}
 use Rattle.gh_lists.specs.Handshake.{Setup}
 
@@ -56,7 +56,7 @@ module _ (setup : Setup) where
   no_worker : ltb n n ≡ false
   no_worker = grind (arith, nat_tests)
 
-  pub at_seat : at [] n ≡ actor.Leads opening
+  pub at_seat : at [] n ≡ Actor.Leads opening
   at_seat = rw no_processor (rw no_worker refl)
 
   first : IsLedThen []
@@ -79,4 +79,4 @@ module _ (setup : Setup) where
   led_then (e ∷ es) = one_more e es (led_then es)
 
   pub goes_then : (es : List (Entry Op)) (c : Coordinating) → IsLed setup es c → ClosingIsBusy c.stage
-  goes_then es c led = let x = led_then es in let both : actor.Leads x.lead ≡ actor.Leads c = sym x.led_by ∙ led in let same : x.lead ≡ c = cc in subst (λ (d : Coordinating). ClosingIsBusy d.stage) same x.going
+  goes_then es c led = let x = led_then es in let both : Actor.Leads x.lead ≡ Actor.Leads c = sym x.led_by ∙ led in let same : x.lead ≡ c = cc in subst (λ (d : Coordinating). ClosingIsBusy d.stage) same x.going

@@ -1,10 +1,8 @@
 -- One cycle more in the coordinator's list.
-use Rattle.std.proofs.Common.{◌≡◌, ℕ, zero, suc, ◌+◌, ◌<◌, ◌≤◌, Bool, true, false, cond, ltb, refl, sym, ap, ◌∙◌, arith, List, [], ◌∷◌, ◌++◌, length, length-append, Some}
+use Rattle.std.proofs.Common.{◌≡◌, ℕ, zero, suc, ◌+◌, ◌<◌, ◌≤◌, Bool, true, false, cond, ltb, refl, sym, ap, ◌∙◌, arith, List, [], ◌∷◌, ◌++◌, length, length-append, Some, min, slice_get}
 use Rattle.std.proofs.lemmas.Bool.{ltb-true, ltb-false}
 use Rattle.std.proofs.lemmas.Option.{slice_get_within}
-use Rattle.std.specs.Prelude.{min, slice_get}
-use Rattle.gh_coord.specs.declared.cycles.Cycle.{Cycle}
-use Rattle.gh_coord.specs.Keeping.{Kept, kept_with_cycle}
+use Rattle.gh_lists.specs.Vocabulary.{Cycle, Kept, kept_with_cycle}
 use Rattle.gh_lists.specs.Numbers.{KeepsCycles}
 
 at_end : (xs : List Cycle) (x : Cycle) → slice_get (xs ++ x ∷ []) (length xs) ≡ Some x
@@ -53,12 +51,3 @@ module _ (room many : ℕ) (c : Kept) (x : Cycle) (h : KeepsCycles room many c) 
 
   pub one_more : x.k ≡ suc many → KeepsCycles room (suc many) (kept_with_cycle c x)
   one_more k = grind (arith, length_so, numbered_so)
-
-  -- it is there where there is room for it
-  pub is_there : many < room → slice_get (kept_with_cycle c x).items many ≡ Some x
-  is_there m = go (ltb (length c.items) c.room) refl where
-    long : length c.items ≡ many
-    long = let some = h.many_are in grind (arith, some, m)
-
-    go : (b : Bool) → ltb (length c.items) c.room ≡ b → slice_get (more b) many ≡ Some x
-    go b e = grind (arith, at_end, long, m)

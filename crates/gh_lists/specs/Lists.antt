@@ -1,14 +1,7 @@
 -- Lists of steps of all actors of a heap, the newest first: the words and the heap that never frees after one, who leads, and with which entry a cycle begins, ends or is swept.
 use Rattle.std.specs.Prelude.{◌≡◌, ℕ, ◌≤◌, Bool, List, [], ◌∷◌}
-use Rattle.gh_lists.specs.Vocabulary.{Entry, Ever, Layout, Legal, Op, opening_words, processor_kind, Shape, state_of, Words, words_after}
-use Rattle.gh_base.specs.declared.limits.TheConstants.{MOST_STATEMENTS}
+use Rattle.gh_lists.specs.Vocabulary.{acks_of, Arena, Close, Coordinating, CoordStage, Entry, Ever, Layout, Legal, MOST_STATEMENTS, Op, opening_words, processor_kind, Shape, state_of, StoreSwept, Tell, Words, words_after}
 use Rattle.gh_coord.specs.declared.close.CloseStage.TheVariants.{StoreGen}
-use Rattle.gh_coord.specs.declared.coord.CoordStage.{CoordStage}
-use Rattle.gh_coord.specs.declared.coord.CoordStage.TheVariants.{Close, Tell}
-use Rattle.gh_coord.specs.declared.tell.TellStage.TheVariants.{StoreSwept}
-use Rattle.gh_coord.specs.Listing.{Coordinating}
-use Rattle.gh_coord.specs.Stopping.{acks_of}
-use Rattle.gh_heap.specs.Rights.{Arena}
 use Rattle.gh_lists.specs.Handshake.{Pacing, those, Setup}
 use Rattle.gh_lists.specs.Marking.{IsBeginning, IsLedBy}
 use Rattle.gh_lists.specs.Processors.{arena_of, ever_after_list, may_begin}

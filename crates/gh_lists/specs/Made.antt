@@ -1,12 +1,11 @@
 -- How many objects each goroutine has made: never fewer than before, and at most as many as it has statements that may ask for a cycle.
 use Rattle.std.proofs.Common.{ℕ, ◌+◌, ◌≤◌, Bool, cond, List, [], ◌∷◌, length, Option, Some, ap, arith, inl, inr}
 use Rattle.std.specs.List.{filter}
+use Rattle.gh_lists.specs.Vocabulary.{Act, acted, acts, Answer, Entry, Ever, ever_after, Layout, Op, Shape}
 use Rattle.gh_model.specs.Answers.{ever_after_all}
-use Rattle.gh_mutator.specs.Deeds.{acted}
 use Rattle.gh_lists.specs.Marking.{IsStartOf}
 use Rattle.gh_lists.specs.Order.{before_step, ever_of}
 use Rattle.gh_lists.specs.Processors.{asks_collector}
-use Rattle.gh_lists.specs.LemmaVocabulary.{Act, acts, Answer, Entry, Ever, ever_after, Layout, Op, Shape}
 
 -- one object more, if the operation makes one for the goroutine
 pub record MakesAtMostOne (before after : ℕ) (may : Bool) : Type 0 where

@@ -1,22 +1,10 @@
 -- Where a cycle begins and where its marking ends, and the state of marking after a list of all actors.
 use Rattle.std.specs.Prelude.{◌≡◌, ℕ, ◌⊎◌, Bool, false, List, [], ◌∷◌}
-use Rattle.gh_base.specs.declared.layout.Layout.{Layout}
-use Rattle.gh_base.specs.declared.machine.Entry.{Entry}
-use Rattle.gh_base.specs.declared.operation.Op.{Op}
-use Rattle.gh_base.specs.Cells.{Words}
+use Rattle.gh_lists.specs.Vocabulary.{acks_of, Actor, Arena, Close, CoordStage, Entry, Layout, mark_words, Op, Open, row_bit, Setting, state_of, StorePhase, Words, words_after}
 use Rattle.gh_base.specs.Limits.{InLimits}
-use Rattle.gh_base.specs.Lists.{Setting, state_of, words_after}
-use Rattle.gh_base.specs.Rows.{mark_words, row_bit}
-use Rattle.gh_heap.specs.Rights.{Arena}
 use Rattle.gh_marks.specs.Colours.{Cycle, Shared}
 use Rattle.gh_marks.specs.Ends.{EachReachedIsMarked, IsDone}
-use Rattle.gh_coord.specs.declared.coord.CoordStage.{CoordStage}
-use Rattle.gh_coord.specs.declared.coord.CoordStage.TheVariants.{Close, Open}
-use Rattle.gh_coord.specs.declared.open.OpenStage.TheVariants.{StorePhase}
 use Rattle.gh_coord.specs.Listing as coord
-use Rattle.gh_coord.specs.Stopping.{acks_of}
-use Rattle.gh_lists.specs.declared.handshake.Actor.{Actor}
-use Rattle.gh_lists.specs.declared.handshake.Actor.TheVariants as actor
 use Rattle.gh_lists.specs.Handshake.{Pacing, Setup, those}
 
 -- its next step stores the phase of marking: with that a cycle begins
@@ -57,7 +45,7 @@ module _ (arena : Arena) (pacing : Pacing) (may_begin : ℕ → List (Entry Op) 
   actors_after es a = state_of setting.kind a es
 
   abbrev pub IsLedBy : List (Entry Op) → coord.Coordinating → Type 0
-  IsLedBy es c = actors_after es (acks_of arena.layout) ≡ actor.Leads c
+  IsLedBy es c = actors_after es (acks_of arena.layout) ≡ Actor.Leads c
 
   abbrev pub words : List (Entry Op) → Words
   words es = words_after setting.opening es

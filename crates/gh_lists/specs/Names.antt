@@ -1,7 +1,7 @@
 -- An object that was made, and of which a birth word beside a set alloc bit says the name, is placed there.
 use Rattle.std.proofs.Common.{◌≡◌, ℕ, ◌^◌, ◌<◌, sym, ap, subst, ◌∙◌, arith}
-use Rattle.gh_base.specs.Packing.{birth_word}
-use Rattle.gh_lists.specs.LemmaVocabulary.{Arena, Good, IsMade, Name, Placed, row_bit, View}
+use Rattle.gh_lists.specs.Vocabulary.{Arena, birth_word, Good, IsMade, Name, Placed, row_bit}
+use Rattle.gh_lists.specs.LemmaVocabulary.{View}
 
 -- names of few objects are told apart by their birth words
 pub same_birth_same_name : (n m : Name) → n.k < 2 ^ 32 → m.k < 2 ^ 32 → birth_word n ≡ birth_word m → n ≡ m

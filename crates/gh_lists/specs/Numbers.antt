@@ -1,14 +1,9 @@
 -- The numbers of cycles over every legal list of all actors: in the words, with the coordinator, and in its list of cycles.
 use Rattle.std.specs.Prelude.{◌≡◌, ℕ, suc, ◌+◌, ◌*◌, ◌^◌, ◌≤◌, ◌⊎◌, ◌↔◌, Bool, true, false, if◌then◌else◌, min, List, [], ◌∷◌, length, slice_get, Some}
-use Rattle.gh_base.specs.declared.cell.Ask.{Ask}
-use Rattle.gh_base.specs.declared.cell.Ask.TheVariants.{Store, Or}
-use Rattle.gh_base.specs.declared.cell.Cell.TheVariants as cell
+use Rattle.gh_lists.specs.Vocabulary.{acks_of, Actor, Ask, Begun, Cell, Checked, Coordinating, Counted, Cycle, Ended, Entry, Kept, Legal, Numbered, Op, Opened, Or, Outside, Part, part_of, Setting, state_of, Store, Words, words_after}
 use Rattle.gh_coord.specs.Handshake as leading
-use Rattle.gh_coord.specs.Parts.{Begun, Checked, Counted, Ended, Numbered, Opened, Outside, Part, part_of}
-use Rattle.gh_lists.specs.declared.handshake.Actor.TheVariants as actor
 use Rattle.gh_lists.specs.Handshake.{those, Setup}
 use Rattle.gh_lists.specs.Marking.{IsBeginning}
-use Rattle.gh_lists.specs.Vocabulary.{acks_of, Actor, Coordinating, Cycle, Entry, Kept, Legal, Op, Setting, state_of, Words, words_after}
 
 -- How many cycles more than are swept have a number, are opened, have begun, have a sweep generation, have ended, and are kept.
 pub record Ahead : Type 0 where
@@ -41,11 +36,11 @@ pub record KeepsCycles (room many : ℕ) (c : Kept) : Type 0 where
 -- How often a cycle was opened, and how often one was asked for.
 
 abbrev pub opens_one : Ask → Bool
-opens_one (Store cell.Want value) = true
+opens_one (Store Cell.Want value) = true
 opens_one _ = false
 
 abbrev pub asks_for_one : Ask → Bool
-asks_for_one (Or cell.Want bits) = true
+asks_for_one (Or Cell.Want bits) = true
 asks_for_one _ = false
 
 abbrev pub opened_after : Ask → (before : ℕ) → ℕ
@@ -75,16 +70,16 @@ module _ (s : Setting Actor Op) (room : ℕ) (es : List (Entry Op)) (c : Coordin
   ahead = ahead_at (part_of c.stage)
 
   pub record CountsCycles : Type 0 where
-    pub opened : opened_in es ≡ words cell.Swept + ahead.opened
+    pub opened : opened_in es ≡ words Cell.Swept + ahead.opened
     -- the words, and the coordinator's own numbers
-    pub begun : words cell.Begun ≡ words cell.Swept + ahead.begun
-    pub gen : words cell.Gen ≡ generation_after (words cell.Swept + ahead.ended)
-    pub number : c.begun ≡ words cell.Swept + ahead.numbered
-    pub generation : c.generation ≡ generation_after (words cell.Swept + ahead.generation)
+    pub begun : words Cell.Begun ≡ words Cell.Swept + ahead.begun
+    pub gen : words Cell.Gen ≡ generation_after (words Cell.Swept + ahead.ended)
+    pub number : c.begun ≡ words Cell.Swept + ahead.numbered
+    pub generation : c.generation ≡ generation_after (words Cell.Swept + ahead.generation)
     -- one cycle more has begun than has ended exactly while it is marked, and where the store of that phase is next
-    pub marks : words cell.Gen ≡ 2 * words cell.Begun ↔ (leading.Marks c.stage ⊎ IsBeginning c.stage)
-    pub cycles : KeepsCycles room (words cell.Swept + ahead.kept) c.cycles
+    pub marks : words Cell.Gen ≡ 2 * words Cell.Begun ↔ (leading.Marks c.stage ⊎ IsBeginning c.stage)
+    pub cycles : KeepsCycles room (words Cell.Swept + ahead.kept) c.cycles
 
 abbrev pub EveryListCountsCycles : Type 0
 EveryListCountsCycles = (setup : Setup) (es : List (Entry Op)) (c : Coordinating) →
-    Legal (those setup) es → IsFew es → state_of (those setup).kind (acks_of setup.layout) es ≡ actor.Leads c → CountsCycles (those setup) setup.pacing.room es c
+    Legal (those setup) es → IsFew es → state_of (those setup).kind (acks_of setup.layout) es ≡ Actor.Leads c → CountsCycles (those setup) setup.pacing.room es c

@@ -1,24 +1,12 @@
 -- Lists of steps of all actors, the newest first: what was begun, where each statement acted, what was answered, and what the heap that never frees is after them. Operations are begun by the processor alone; at the seat of a worker or of the coordinator these words speak of a processor that rests.
 use Rattle.std.specs.Prelude.{ℕ, nat_lt, Bool, true, false, if◌then◌else◌, ◌==◌, ◌&&◌, ◌||◌, List, [], ◌∷◌, ◌++◌, reverse, Option, Some, None}
-use Rattle.std.specs.Option.{option_to_list}
-use Rattle.gh_base.specs.declared.value.Answer.{Answer}
-use Rattle.gh_base.specs.declared.operation.Op.{Op}
-use Rattle.gh_base.specs.declared.operation.Op.TheVariants as op
-use Rattle.gh_base.specs.declared.shape.Shape.{Shape}
-use Rattle.gh_base.specs.declared.layout.Layout.{Layout}
-use Rattle.gh_base.specs.declared.limits.TheConstants.{REGISTERS}
-use Rattle.gh_base.specs.declared.machine.Entry.{Entry}
-use Rattle.gh_base.specs.Lists.{started, state_of}
-use Rattle.gh_model.specs.Ever.{Ever, opening_ever}
-use Rattle.gh_mutator.specs.Processing.{Processor}
-use Rattle.gh_mutator.specs.Deeds.{acted, answer_at, processor_kind}
-use Rattle.gh_mutator.specs.Listing.{acts, Act}
+use Rattle.gh_lists.specs.Vocabulary.{Act, acted, acts, Answer, answer_at, Entry, Ever, Layout, Op, opening_ever, option_to_list, Processor, processor_kind, REGISTERS, Shape, started, state_of}
 
 -- What an operation needs: a goroutine that there is and that has not ended, registers, a global and a type in range; nothing after the processor has left.
 
 -- what was begun ends goroutine g
 abbrev pub ends : Option Op → ℕ → Bool
-ends (Some (op.End h)) g = h == g
+ends (Some (Op.End h)) g = h == g
 ends _ g = false
 
 abbrev pub ended_in : List (Entry Op) → ℕ → Bool
@@ -27,7 +15,7 @@ ended_in (e ∷ es) g = ends e.begun g || ended_in es g
 
 -- what was begun is the processor's leave
 abbrev pub leaves : Option Op → Bool
-leaves (Some op.Leave) = true
+leaves (Some Op.Leave) = true
 leaves _ = false
 
 abbrev pub has_left : List (Entry Op) → Bool
@@ -36,32 +24,32 @@ has_left (e ∷ es) = leaves e.begun || has_left es
 
 module _ (goroutines globals types : ℕ) where
   abbrev pub in_range : Op → Bool
-  in_range (op.New g d t) = nat_lt g goroutines && nat_lt d REGISTERS && nat_lt t types
-  in_range (op.Load g d b k) = nat_lt g goroutines && nat_lt d REGISTERS && nat_lt b REGISTERS
-  in_range (op.Store g b k v) = nat_lt g goroutines && nat_lt b REGISTERS && nat_lt v REGISTERS
-  in_range (op.GetGlobal g d k) = nat_lt g goroutines && nat_lt d REGISTERS && nat_lt k globals
-  in_range (op.SetGlobal g k v) = nat_lt g goroutines && nat_lt k globals && nat_lt v REGISTERS
-  in_range (op.Int g d n) = nat_lt g goroutines && nat_lt d REGISTERS
-  in_range (op.Move g d s) = nat_lt g goroutines && nat_lt d REGISTERS && nat_lt s REGISTERS
-  in_range (op.Nil g d) = nat_lt g goroutines && nat_lt d REGISTERS
-  in_range (op.End g) = nat_lt g goroutines
-  in_range op.Poll = true
-  in_range op.Leave = true
-  in_range (op.Gc g) = nat_lt g goroutines
+  in_range (Op.New g d t) = nat_lt g goroutines && nat_lt d REGISTERS && nat_lt t types
+  in_range (Op.Load g d b k) = nat_lt g goroutines && nat_lt d REGISTERS && nat_lt b REGISTERS
+  in_range (Op.Store g b k v) = nat_lt g goroutines && nat_lt b REGISTERS && nat_lt v REGISTERS
+  in_range (Op.GetGlobal g d k) = nat_lt g goroutines && nat_lt d REGISTERS && nat_lt k globals
+  in_range (Op.SetGlobal g k v) = nat_lt g goroutines && nat_lt k globals && nat_lt v REGISTERS
+  in_range (Op.Int g d n) = nat_lt g goroutines && nat_lt d REGISTERS
+  in_range (Op.Move g d s) = nat_lt g goroutines && nat_lt d REGISTERS && nat_lt s REGISTERS
+  in_range (Op.Nil g d) = nat_lt g goroutines && nat_lt d REGISTERS
+  in_range (Op.End g) = nat_lt g goroutines
+  in_range Op.Poll = true
+  in_range Op.Leave = true
+  in_range (Op.Gc g) = nat_lt g goroutines
 
 abbrev pub goroutine_of : Op → Option ℕ
-goroutine_of (op.New g d t) = Some g
-goroutine_of (op.Load g d b k) = Some g
-goroutine_of (op.Store g b k v) = Some g
-goroutine_of (op.GetGlobal g d k) = Some g
-goroutine_of (op.SetGlobal g k v) = Some g
-goroutine_of (op.Int g d n) = Some g
-goroutine_of (op.Move g d s) = Some g
-goroutine_of (op.Nil g d) = Some g
-goroutine_of (op.Gc g) = Some g
-goroutine_of (op.End g) = Some g
-goroutine_of op.Poll = None
-goroutine_of op.Leave = None
+goroutine_of (Op.New g d t) = Some g
+goroutine_of (Op.Load g d b k) = Some g
+goroutine_of (Op.Store g b k v) = Some g
+goroutine_of (Op.GetGlobal g d k) = Some g
+goroutine_of (Op.SetGlobal g k v) = Some g
+goroutine_of (Op.Int g d n) = Some g
+goroutine_of (Op.Move g d s) = Some g
+goroutine_of (Op.Nil g d) = Some g
+goroutine_of (Op.Gc g) = Some g
+goroutine_of (Op.End g) = Some g
+goroutine_of Op.Poll = None
+goroutine_of Op.Leave = None
 
 abbrev pub goroutine_is_over : List (Entry Op) → Option ℕ → Bool
 goroutine_is_over es None = false

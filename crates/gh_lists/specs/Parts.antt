@@ -1,9 +1,7 @@
 -- The parts of a cycle: what the words and the coordinator's own numbers are in each, and how one leads to the next.
 use Rattle.std.proofs.Common.{◌≡◌, ℕ, ◌+◌, ◌^◌, ◌≤◌, subst, arith}
+use Rattle.gh_lists.specs.Vocabulary.{Begun, Checked, Coordinating, Counted, cycle_of, Ended, Kept, kept_with_cycle, next_generation, Part}
 use Rattle.gh_base.specs.declared.pack.TallyWord.{TallyWord}
-use Rattle.gh_coord.specs.Keeping.{Kept, kept_with_cycle}
-use Rattle.gh_coord.specs.Listing.{Coordinating, cycle_of, next_generation}
-use Rattle.gh_coord.specs.Parts.{Part, Begun, Checked, Ended, Counted}
 use Rattle.gh_lists.specs.Numbers.{ahead_at, generation_after, KeepsCycles}
 use Rattle.gh_lists.specs.Frames.{CycleWords}
 use Rattle.gh_lists.specs.Keeping.{one_more}

@@ -1,16 +1,14 @@
 -- Lists of steps of any number of processors over one heap, the newest first: which are legal, and what every legal one keeps.
 use Rattle.std.specs.Prelude.{◌≡◌, ◌≢◌, ℕ, zero, suc, ◌+◌, ◌%◌, ◌<◌, ◌≤◌, nat_lt, Bool, true, false, not, ◌==◌, ◌&&◌, ◌||◌, if◌then◌else◌, ◌⊎◌, List, [], ◌∷◌, ◌++◌, length, map, Option, Some, None}
-use Rattle.std.specs.Option.{option_to_list}
-use Rattle.gh_lists.specs.Vocabulary.{Act, Answer, answered_by, AnsweredDeed, Arena, deeds, Entry, Ever, given_by, has_names, Head, Holds, is_busy_at, IsFull, IsOf, IsSpan, Layout, meaning, model_after, Name, Op, op_at, page_of, Placed, Processor, processor_kind, Reach, register_of, REGISTERS, row_bit, Shape, shape_at, size_for, Sought, sought_for, span_for, SpanHead, state_of, Words, words_after}
-use Rattle.gh_base.specs.declared.cell.Cell.TheVariants as cell
-use Rattle.gh_base.specs.declared.operation.Op.TheVariants as op
-use Rattle.gh_base.specs.declared.pack.PageWord.TheVariants.{Free}
-use Rattle.gh_base.specs.Orders.{done_at}
-use Rattle.gh_base.specs.Rows.{alloc_words, birth_words, bitmap_words, field_words, global_words, page_words}
-use Rattle.gh_class.specs.declared.class.SizeClass.TheVariants as size
-use Rattle.gh_heap.specs.Objects.{GlobalsGood, InSlot, Means, Place}
-use Rattle.gh_heap.specs.Spans.{IsVacant}
-use Rattle.gh_mutator.specs.Sound.{has_room}
+use Rattle.gh_lists.specs.Vocabulary.{Act, alloc_words, Answer, answered_by, AnsweredDeed, Arena, birth_words, bitmap_words, Cell, deeds, done_at, Entry, Ever, field_words, given_by, global_words, GlobalsGood, has_names, has_room, Holds, InSlot, is_busy_at, IsOf, Layout, meaning, Means, model_after, Name, Op, op_at, option_to_list, page_of, page_words, Place, Placed, Processor, processor_kind, Reach, register_of, REGISTERS, row_bit, Shape, size_for, state_of, Words, words_after}
+use Rattle.gh_base.specs.declared.pack.PageWord.TheVariants.{Head, Free}
+use Rattle.gh_heap.specs.Spans.{IsFull, IsSpan, IsVacant}
+use Rattle.gh_base.specs.Shapes.{shape_at}
+use Rattle.gh_alloc.specs.declared.sought.Sought.{Sought}
+use Rattle.gh_mutator.specs.New.{sought_for}
+use Rattle.gh_alloc.specs.Find.{span_for}
+use Rattle.gh_base.specs.declared.pack.SpanHead.{SpanHead}
+use Rattle.gh_class.specs.declared.class.SizeClass.{SizeClass}
 use Rattle.gh_lists.specs.Order.{ended_in, goroutine_is_over, goroutine_of, has_left, in_range}
 
 -- goroutine i is of processor i modulo their number; spans are given back whether or not each slot is taken
@@ -25,8 +23,8 @@ is_of z a (Some g) = z.seat_of g == a
 
 -- it is a `new` or a `gc` of goroutine g
 abbrev pub asks_collector : ℕ → Option Op → Bool
-asks_collector g (Some (op.New h d t)) = h == g
-asks_collector g (Some (op.Gc h)) = h == g
+asks_collector g (Some (Op.New h d t)) = h == g
+asks_collector g (Some (Op.Gc h)) = h == g
 asks_collector g _ = false
 
 abbrev pub asked_by : ℕ → List (Entry Op) → ℕ
@@ -35,8 +33,8 @@ asked_by g (e ∷ es) = (if asks_collector g e.begun then 1 else 0) + asked_by g
 
 -- goroutine g has more of them than have begun
 abbrev pub has_more : (counts : ℕ → ℕ) → List (Entry Op) → Op → Bool
-has_more counts es (op.New g d t) = nat_lt (asked_by g es) (counts g)
-has_more counts es (op.Gc g) = nat_lt (asked_by g es) (counts g)
+has_more counts es (Op.New g d t) = nat_lt (asked_by g es) (counts g)
+has_more counts es (Op.Gc g) = nat_lt (asked_by g es) (counts g)
 has_more counts es _ = true
 
 -- each goroutine below n that is of this seat has ended
@@ -45,7 +43,7 @@ all_ended z a es zero = true
 all_ended z a es (suc n) = (not (z.seat_of n == a) || ended_in es n) && all_ended z a es n
 
 abbrev pub may_leave : Arena → (a : ℕ) → List (Entry Op) → Op → Bool
-may_leave z a es op.Leave = all_ended z a es z.layout.goroutines
+may_leave z a es Op.Leave = all_ended z a es z.layout.goroutines
 may_leave z a es _ = true
 
 -- what each list needs
@@ -85,7 +83,7 @@ pub record LiesInUnused (z : Arena) (words : Words) (q p : ℕ) (h : SpanHead) :
 
 -- heap page q is not free, and lies in no empty span that nobody owns
 pub record IsTakenPage (z : Arena) (words : Words) (q : ℕ) : Type 0 where
-  pub not_free : page_of (words (cell.Page q)) ≢ Free
+  pub not_free : page_of (words (Cell.Page q)) ≢ Free
   pub in_none : (p : ℕ) (h : SpanHead) → ¬ LiesInUnused z words q p h
 
 -- a run of so many pages has a page that is taken
@@ -103,8 +101,8 @@ pub record IsAnothers (z : Arena) (a : ℕ) (h : SpanHead) : Type 0 where
 
 -- A span of the span class begins at the page, which is not one of a large object.
 pub record IsOfSpanClass (words : Words) (sought : Sought) (p : ℕ) (h : SpanHead) : Type 0 where
-  pub small : (span_for sought).class ≢ size.Large
-  pub head : page_of (words (cell.Page p)) ≡ Head h
+  pub small : (span_for sought).class ≢ SizeClass.Large
+  pub head : page_of (words (Cell.Page p)) ≡ Head h
   pub class : h.class ≡ (span_for sought).class
   pub noscan : h.noscan ≡ (span_for sought).noscan
 
@@ -112,12 +110,12 @@ pub record IsOfSpanClass (words : Words) (sought : Sought) (p : ℕ) (h : SpanHe
 pub record NoRoomFor (z : Arena) (a : ℕ) (words : Words) (sought : Sought) : Type 0 where
   pub own : (p : ℕ) (h : SpanHead) → IsOfSpanClass words sought p h → h.owner ≢ a + 1
   pub slots : (p : ℕ) (h : SpanHead) → IsOfSpanClass words sought p h → IsAnothers z a h ⊎ IsFull (alloc_words words) p h
-  pub swept : (p : ℕ) (h : SpanHead) → page_of (words (cell.Page p)) ≡ Head h → h.number ≡ words cell.Gen
+  pub swept : (p : ℕ) (h : SpanHead) → page_of (words (Cell.Page p)) ≡ Head h → h.number ≡ words Cell.Gen
   pub run : (first : ℕ) → first + (span_for sought).pages ≤ z.layout.pages → HasTakenPage z words first (span_for sought).pages
 
 -- the operation is to make an object, and of what is sought for it this holds
 abbrev pub OfNew : List Shape → (Sought → Type 0) → Op → Type 0
-OfNew shapes P (op.New g d t) = P (sought_for (shape_at shapes t))
+OfNew shapes P (Op.New g d t) = P (sought_for (shape_at shapes t))
 OfNew shapes P _ = ⊥
 
 abbrev pub IsFullFor : Arena → (a : ℕ) → Words → Op → Type 0

@@ -1,21 +1,21 @@
 -- Steps that write none of the words of cycles: those of sweeps and of workers; and the coordinator's where it stops the world, looks and checks, sweeps, and loads what was counted.
 use Rattle.std.proofs.Common.{◌≡◌, ℕ, true, inl, arith}
-use Rattle.gh_base.specs.declared.cell.Cell.TheVariants as cell
+use Rattle.gh_lists.specs.Vocabulary.{Ask, Cell, effect, Layout, Words, WorkersWriteTheirOwn}
 use Rattle.gh_coord.specs.Counting as count
 use Rattle.gh_coord.specs.Stopping as stop
 use Rattle.gh_coord.specs.SweepingAll as all
 use Rattle.gh_coord.specs.Watching as watch
 use Rattle.gh_worker.specs.Handshake as working
 use Rattle.gh_worker.specs.Listing as worker
-use Rattle.gh_lists.specs.LemmaVocabulary.{Ask, asked_after, CountStage, effect, Layout, opened_after, StopStage, SweepAllStage, WatchStage, Words, WorkersWriteTheirOwn}
+use Rattle.gh_lists.specs.LemmaVocabulary.{asked_after, CountStage, opened_after, StopStage, SweepAllStage, WatchStage}
 use Rattle.gh_lists.specs.Frames.{LeavesCycleWords, numbers_of}
 
 -- no cycle is opened, asked for, begun, ended or told, and no stack's word is written
 pub record Quiet (w : Words) (ask : Ask) : Type 0 where
   pub opens_none : (before : ℕ) → opened_after ask before ≡ before
   pub asks_none : (before : ℕ) → asked_after ask before ≡ before
-  pub want : effect w ask cell.Want ≡ w cell.Want
-  pub scanned : (g : ℕ) → effect w ask (cell.Scanned g) ≡ w (cell.Scanned g)
+  pub want : effect w ask Cell.Want ≡ w Cell.Want
+  pub scanned : (g : ℕ) → effect w ask (Cell.Scanned g) ≡ w (Cell.Scanned g)
   pub numbers : numbers_of (effect w ask) ≡ numbers_of w
 
 -- so they stay

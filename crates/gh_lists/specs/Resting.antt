@@ -1,15 +1,9 @@
 -- At the seat of a worker or of the coordinator no operation begins: a processor there would rest. So no entry of theirs acts, gives an answer or begins anything; and at a processor's seat the actor is what its own entries make of it.
 use Rattle.std.proofs.Common.{◌≡◌, ◌≢◌, ℕ, ◌<◌, ◌≤◌, ◌==◌, Bool, true, false, cond, refl, sym, ap, subst, ◌∙◌, arith, List, [], ◌∷◌, Option, Some, None}
-use Rattle.std.proofs.lemmas.Bool.Decides.{nat_tests}
-use Rattle.gh_base.specs.Lists.{Begins, by}
-use Rattle.gh_base.specs.Orders.{before_step}
-use Rattle.gh_mutator.specs.Deeds.{deeds, OnlyPointsChange, processor_kind}
-use Rattle.gh_mutator.specs.Processor.{opening_processor}
-use Rattle.gh_lists.specs.declared.handshake.Actor.{Actor}
-use Rattle.gh_lists.specs.declared.handshake.Actor.TheVariants as actor
+use Rattle.gh_lists.specs.Vocabulary.{Actor, before_step, Begins, by, deeds, Entry, Legal, nat_tests, OnlyPointsChange, Op, opening_processor, opening_words, Processor, processor_kind, started, state_of}
 use Rattle.gh_lists.specs.Lists.{arena, ever}
 use Rattle.gh_lists.specs.Handshake.{actors, is_busy, those, Setup}
-use Rattle.gh_lists.specs.LemmaVocabulary.{actors_after, answers_of, Entry, given_of, Legal, Op, opening_words, Processor, started, state_of}
+use Rattle.gh_lists.specs.LemmaVocabulary.{actors_after, answers_of, given_of}
 use Rattle.gh_lists.specs.Seats.{IsSeated, seated}
 
 module _ (setup : Setup) where
@@ -17,14 +11,14 @@ module _ (setup : Setup) where
   at es a = actors_after (arena setup) setup.pacing setup.may es a
 
   -- who is no processor begins nothing
-  nothing_begins : (o : Option Op) (x : Actor) → ((m : Processor) → x ≢ actor.Runs m) → is_busy (started (actors setup) o x) ≡ true →
+  nothing_begins : (o : Option Op) (x : Actor) → ((m : Processor) → x ≢ Actor.Runs m) → is_busy (started (actors setup) o x) ≡ true →
       (y : Op) → o ≡ Some y → is_busy x ≡ false → ⊥
   nothing_begins o x other runs y e idle = grind arith
 
   pub begins_none : (a : ℕ) (es : List (Entry Op)) (o : Option Op) → setup.layout.procs ≤ a → Begins (those setup) a es o → is_busy (started (actors setup) o (at es a)) ≡ true → o ≡ None
   begins_none a es None ge begins runs = refl
   begins_none a es (Some y) ge begins runs = absurd (nothing_begins (Some y) (at es a) no_processor runs y refl begins.0) where
-    no_processor : (m : Processor) → at es a ≢ actor.Runs m
+    no_processor : (m : Processor) → at es a ≢ Actor.Runs m
     no_processor m is = absurd (let lt : a < setup.layout.procs = subst (IsSeated setup.layout a) is (seated setup es a) in omega (arith, lt, ge))
 
   module _ (e : Entry Op) (es : List (Entry Op)) (legal : Legal (those setup) (e ∷ es)) (ge : setup.layout.procs ≤ e.actor) where
@@ -68,15 +62,15 @@ module _ (setup : Setup) where
     own_stay = rw other refl
 
   -- At a processor's seat.
-  runs_first : (a : ℕ) → a < setup.layout.procs → at [] a ≡ actor.Runs (opening_processor a)
+  runs_first : (a : ℕ) → a < setup.layout.procs → at [] a ≡ Actor.Runs (opening_processor a)
   runs_first a lt = grind arith
 
-  runs_on : (e : Entry Op) (es : List (Entry Op)) (a : ℕ) → at es a ≡ actor.Runs (state_of (processor_kind setup.shapes setup.layout) a es) → at (e ∷ es) a ≡ actor.Runs (state_of (processor_kind setup.shapes setup.layout) a (e ∷ es))
+  runs_on : (e : Entry Op) (es : List (Entry Op)) (a : ℕ) → at es a ≡ Actor.Runs (state_of (processor_kind setup.shapes setup.layout) a es) → at (e ∷ es) a ≡ Actor.Runs (state_of (processor_kind setup.shapes setup.layout) a (e ∷ es))
   runs_on e es a is = grind arith
 
-  pub runs_are : (es : List (Entry Op)) (a : ℕ) → a < setup.layout.procs → at es a ≡ actor.Runs (state_of (processor_kind setup.shapes setup.layout) a es)
+  pub runs_are : (es : List (Entry Op)) (a : ℕ) → a < setup.layout.procs → at es a ≡ Actor.Runs (state_of (processor_kind setup.shapes setup.layout) a es)
   runs_are [] a lt = runs_first a lt
   runs_are (e ∷ es) a lt = runs_on e es a (runs_are es a lt)
 
-  pub run_is : (es : List (Entry Op)) (a : ℕ) (m : Processor) → a < setup.layout.procs → at es a ≡ actor.Runs m → state_of (processor_kind setup.shapes setup.layout) a es ≡ m
+  pub run_is : (es : List (Entry Op)) (a : ℕ) (m : Processor) → a < setup.layout.procs → at es a ≡ Actor.Runs m → state_of (processor_kind setup.shapes setup.layout) a es ≡ m
   run_is es a m lt is = grind (arith, runs_are)

@@ -1,23 +1,15 @@
 -- Which actor is at which seat after every list, and what an entry makes of it.
-use Rattle.std.proofs.Common.{◌≡◌, ℕ, ◌<◌, ◌≤◌, Bool, false, cond, ◌==◌, refl, arith, List, [], ◌∷◌, Option, eq-eqb}
-use Rattle.gh_base.specs.declared.layout.Layout.{Layout}
-use Rattle.gh_base.specs.declared.machine.Entry.{Entry}
-use Rattle.gh_base.specs.declared.operation.Op.{Op}
-use Rattle.gh_base.specs.Lists.{Kind, started, state_of}
+use Rattle.std.proofs.Common.{◌≡◌, ℕ, ◌<◌, ◌≤◌, Bool, false, cond, ◌==◌, refl, arith, List, [], ◌∷◌, Option}
+use Rattle.gh_lists.specs.Vocabulary.{acks_of, Actor, Entry, Kind, Layout, Op, Processor, processor_kind, started, state_of}
 use Rattle.gh_coord.specs.Listing as coord
-use Rattle.gh_coord.specs.Stopping.{acks_of}
-use Rattle.gh_mutator.specs.Processing.{Processor}
-use Rattle.gh_mutator.specs.Deeds.{processor_kind}
 use Rattle.gh_worker.specs.Listing as worker
-use Rattle.gh_lists.specs.declared.handshake.Actor.{Actor}
-use Rattle.gh_lists.specs.declared.handshake.Actor.TheVariants as actor
 use Rattle.gh_lists.specs.Handshake.{actors, start, actor_takes, Setup}
 
 -- processors, then workers, then the coordinator
 abbrev pub IsSeated : Layout → (a : ℕ) → Actor → Type 0
-IsSeated l a (actor.Runs m) = a < l.procs
-IsSeated l a (actor.Marks w) = (l.procs ≤ a) × (a < acks_of l)
-IsSeated l a (actor.Leads c) = acks_of l ≤ a
+IsSeated l a (Actor.Runs m) = a < l.procs
+IsSeated l a (Actor.Marks w) = (l.procs ≤ a) × (a < acks_of l)
+IsSeated l a (Actor.Leads c) = acks_of l ≤ a
 
 module _ (setup : Setup) where
   abbrev k : Kind Processor Op
@@ -27,13 +19,13 @@ module _ (setup : Setup) where
   all = actors setup
 
   -- what is begun, by each kind of actor
-  pub run_started : (o : Option Op) (m : Processor) → started all o (actor.Runs m) ≡ actor.Runs (started k o m)
+  pub run_started : (o : Option Op) (m : Processor) → started all o (Actor.Runs m) ≡ Actor.Runs (started k o m)
   run_started o m = grind arith
 
-  pub worker_started : (o : Option Op) (w : worker.Working) → started all o (actor.Marks w) ≡ actor.Marks w
+  pub worker_started : (o : Option Op) (w : worker.Working) → started all o (Actor.Marks w) ≡ Actor.Marks w
   worker_started o w = grind arith
 
-  pub lead_started : (o : Option Op) (c : coord.Coordinating) → started all o (actor.Leads c) ≡ actor.Leads c
+  pub lead_started : (o : Option Op) (c : coord.Coordinating) → started all o (Actor.Leads c) ≡ Actor.Leads c
   lead_started o c = grind arith
 
   first : (a : ℕ) → IsSeated setup.layout a (start setup.layout setup.pacing a)
@@ -43,9 +35,9 @@ module _ (setup : Setup) where
   begun a o m s = grind arith
 
   taken : (a found : ℕ) (m : Actor) → IsSeated setup.layout a m → IsSeated setup.layout a (actor_takes setup.shapes setup.layout m found)
-  taken a found (actor.Runs m) s = s
-  taken a found (actor.Marks w) s = s
-  taken a found (actor.Leads c) s = s
+  taken a found (Actor.Runs m) s = s
+  taken a found (Actor.Marks w) s = s
+  taken a found (Actor.Leads c) s = s
 
   abbrev state : List (Entry Op) → ℕ → Actor
   state es a = state_of all a es
@@ -59,17 +51,14 @@ module _ (setup : Setup) where
 
   -- one entry more
   module _ (e : Entry Op) (es : List (Entry Op)) where
-    pub own : state (e ∷ es) e.actor ≡ actor_takes setup.shapes setup.layout (started all e.begun (state es e.actor)) e.found
-    own = rw (eq-eqb e.actor e.actor refl) refl
-
     pub other : (a : ℕ) → (e.actor == a) ≡ false → state (e ∷ es) a ≡ state es a
     other a x = rw x refl
 
-    pub runs : (m : Processor) → state es e.actor ≡ actor.Runs m → state (e ∷ es) e.actor ≡ actor.Runs (k.takes (started k e.begun m) e.found)
+    pub runs : (m : Processor) → state es e.actor ≡ Actor.Runs m → state (e ∷ es) e.actor ≡ Actor.Runs (k.takes (started k e.begun m) e.found)
     runs m is = grind arith
 
-    pub works : (w : worker.Working) → state es e.actor ≡ actor.Marks w → state (e ∷ es) e.actor ≡ actor.Marks (worker.goes setup.layout w e.found)
+    pub works : (w : worker.Working) → state es e.actor ≡ Actor.Marks w → state (e ∷ es) e.actor ≡ Actor.Marks (worker.goes setup.layout w e.found)
     works w is = grind arith
 
-    pub leads : (c : coord.Coordinating) → state es e.actor ≡ actor.Leads c → state (e ∷ es) e.actor ≡ actor.Leads (coord.goes setup.layout c e.found)
+    pub leads : (c : coord.Coordinating) → state es e.actor ≡ Actor.Leads c → state (e ∷ es) e.actor ≡ Actor.Leads (coord.goes setup.layout c e.found)
     leads c is = grind arith

@@ -1,8 +1,6 @@
 -- What a start of a list is: a list is one of itself, a start of a start is one, and one of a legal list is legal.
 use Rattle.std.proofs.Common.{◌⊎◌, refl, sym, subst, inl, inr, List, [], ◌∷◌}
-use Rattle.gh_base.specs.Lists.{Setting}
-use Rattle.gh_lists.specs.declared.handshake.Actor.{Actor}
-use Rattle.gh_lists.specs.LemmaVocabulary.{Entry, Legal, Op}
+use Rattle.gh_lists.specs.Vocabulary.{Actor, Entry, Legal, Op, Setting}
 use Rattle.gh_lists.specs.Marking.{IsStartOf}
 
 pub whole : (es : List (Entry Op)) → IsStartOf es es

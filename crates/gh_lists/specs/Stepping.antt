@@ -1,13 +1,12 @@
 -- What an entry of a legal list is to a processor: a step of its own, on an operation that is begun, or another's; and who is no processor has none begun.
 use Rattle.std.proofs.Common.{◌≡◌, ℕ, ◌<◌, ◌≤◌, ◌⊎◌, Bool, true, false, cond, eqb, List, ◌∷◌, Option, Some, None, sym, ap, subst, ◌∙◌, arith, eq-eqb}
 use Rattle.std.proofs.lemmas.Bool.{eqb-false}
-use Rattle.gh_mutator.specs.Listing.{gives}
-use Rattle.gh_lists.specs.declared.handshake.Actor.TheVariants as actor
+use Rattle.gh_lists.specs.Vocabulary.{Act, acting, Actor, acts, asks, Begins, Entry, gives, is_busy_at, Kind, Legal, Op, opening_processor, Processor, processor_kind, started, state_of, takes}
 use Rattle.gh_lists.specs.Lists.{arena}
 use Rattle.gh_lists.specs.Handshake.{actors, those, Setup}
 use Rattle.gh_lists.specs.Marking.{actors_after}
 use Rattle.gh_lists.specs.Order.{before_step}
-use Rattle.gh_lists.specs.LemmaVocabulary.{Actor, acts, asks, Begins, Entry, is_busy_at, is_serving, Kind, Legal, Op, opening_processor, Processor, processor_kind, started, state_of, takes, Act, acting}
+use Rattle.gh_lists.specs.LemmaVocabulary.{is_serving}
 use Rattle.gh_lists.specs.Resting.{begins_none, rests, runs_are}
 use Rattle.gh_lists.specs.Seats.{run_started}
 
@@ -22,7 +21,7 @@ module _ (setup : Setup) (es : List (Entry Op)) (e : Entry Op) (legal : Legal (t
   abbrev everyone : Kind Actor Op
   everyone = actors setup
 
-  begun_is : (a : ℕ) → a < setup.layout.procs → (o : Option Op) → started everyone o (actors_after (arena setup) setup.pacing setup.may es a) ≡ actor.Runs (started (processor_kind setup.shapes setup.layout) o (state_of (processor_kind setup.shapes setup.layout) a es))
+  begun_is : (a : ℕ) → a < setup.layout.procs → (o : Option Op) → started everyone o (actors_after (arena setup) setup.pacing setup.may es a) ≡ Actor.Runs (started (processor_kind setup.shapes setup.layout) o (state_of (processor_kind setup.shapes setup.layout) a es))
   begun_is a lt o = ap (λ (x : Actor). started everyone o x) (runs_are setup es a lt) ∙ run_started setup o (state_of (processor_kind setup.shapes setup.layout) a es)
 
   -- who is no processor has no operation begun

@@ -1,15 +1,10 @@
 -- The requests for cycles over every legal list: as many cycles are opened as are asked for, and the last; and how few these are.
 use Rattle.std.specs.Prelude.{◌≡◌, ℕ, zero, suc, ◌+◌, ◌*◌, ◌≤◌, ◌<◌, ◌⊎◌, Bool, true, false, List, Some}
-use Rattle.gh_base.specs.declared.cell.Cell.TheVariants as cell
-use Rattle.gh_base.specs.declared.limits.TheConstants.{MOST_STATEMENTS}
-use Rattle.gh_base.specs.Packing.{bit}
-use Rattle.gh_coord.specs.declared.coord.CoordStage.TheVariants.{LoadAck, LoadWant, Stop, Open}
-use Rattle.gh_coord.specs.declared.open.OpenStage.TheVariants.{ClearWant}
-use Rattle.gh_lists.specs.declared.handshake.Actor.TheVariants as actor
+use Rattle.gh_lists.specs.Vocabulary.{acks_of, Actor, Arena, bit, Cell, ClearWant, Coordinating, CoordStage, Entry, Layout, Legal, LoadAck, LoadWant, MOST_STATEMENTS, Op, Open, Processor, Setting, state_of, Stop, words_after}
 use Rattle.gh_lists.specs.Handshake.{those, Setup}
 use Rattle.gh_lists.specs.Numbers.{asked_in, IsFew, opened_in}
 use Rattle.gh_lists.specs.Processors.{asked_by, asks_collector, may_begin as may_begin_at}
-use Rattle.gh_lists.specs.Vocabulary.{acks_of, Actor, Arena, CoordStage, Coordinating, Entry, Layout, Legal, Op, OpenStage, Processor, Setting, state_of, words_after}
+use Rattle.gh_coord.specs.declared.open.OpenStage.{OpenStage}
 
 -- it looks whether a cycle is to be opened
 abbrev pub IsIdle : CoordStage → Type 0
@@ -37,15 +32,15 @@ last_at is_last _ = bit is_last
 
 -- What every legal list keeps.
 pub record CountsWants (s : Setting Actor Op) (es : List (Entry Op)) (c : Coordinating) : Type 0 where
-  pub word : words_after s.opening es cell.Want ≤ 1
+  pub word : words_after s.opening es Cell.Want ≤ 1
   -- each cycle was asked for, but the last; and so is the one that the word asks for now
-  pub enough : opened_in es + words_after s.opening es cell.Want ≤ asked_in es + last_at c.is_last c.stage
+  pub enough : opened_in es + words_after s.opening es Cell.Want ≤ asked_in es + last_at c.is_last c.stage
   pub idle : IsIdle c.stage → c.is_last ≡ false
-  pub wanted : IsToOpen c.stage → (c.is_last ≡ true) ⊎ (words_after s.opening es cell.Want ≡ 1)
+  pub wanted : IsToOpen c.stage → (c.is_last ≡ true) ⊎ (words_after s.opening es Cell.Want ≡ 1)
 
 abbrev pub EveryListCountsWants : Type 0
 EveryListCountsWants = (setup : Setup) (es : List (Entry Op)) (c : Coordinating) →
-    Legal (those setup) es → state_of (those setup).kind (acks_of setup.layout) es ≡ actor.Leads c → CountsWants (those setup) es c
+    Legal (those setup) es → state_of (those setup).kind (acks_of setup.layout) es ≡ Actor.Leads c → CountsWants (those setup) es c
 
 -- How few cycles there are.
 

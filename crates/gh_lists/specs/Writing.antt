@@ -1,8 +1,7 @@
 -- A processor writes none of the numbers of cycles, and the word of a stack by the number that it knows.
 use Rattle.std.proofs.Common.{◌≡◌, ℕ, ◌⊎◌, true, List, arith}
-use Rattle.gh_base.specs.declared.cell.Cell.TheVariants as cell
+use Rattle.gh_lists.specs.Vocabulary.{Add, And, Ask, asks, Cell, END, is_busy_at, IsAwake, IsSound, IsWritten, Layout, Or, Party, party_at, party_of, Processor, ProcessorInHandshake, ProcessorWritesItsOwn, Shape, Stage, stage_of, StageGoes, Store, Swap, Task, WritesOf}
 use Rattle.gh_mutator.specs.Listing.{asks_at}
-use Rattle.gh_lists.specs.LemmaVocabulary.{Add, And, Ask, asks, END, is_busy_at, IsAwake, IsSound, IsWritten, Layout, Or, Party, party_at, party_of, Processor, ProcessorInHandshake, ProcessorWritesItsOwn, Shape, Stage, stage_of, StageGoes, Store, Swap, Task, WritesOf}
 use Rattle.gh_lists.specs.Frames.{LeavesNumbers}
 
 leaves_by : (l : Layout) (m : Processor) (q : Ask) → asks l m ≡ q → WritesOf (IsWritten l m) q → LeavesNumbers q
@@ -17,20 +16,20 @@ module _ (party : Party) (stage : Stage) where
 
   -- the word of a stack is written by a store of such a number
   abbrev pub NumbersStack : Ask → Type 0
-  NumbersStack (Store (cell.Scanned g) value) = IsNumberOf value
-  NumbersStack (Or (cell.Scanned g) bits) = ⊥
-  NumbersStack (And (cell.Scanned g) bits) = ⊥
-  NumbersStack (Add (cell.Scanned g) more) = ⊥
-  NumbersStack (Swap (cell.Scanned g) old new) = ⊥
+  NumbersStack (Store (Cell.Scanned g) value) = IsNumberOf value
+  NumbersStack (Or (Cell.Scanned g) bits) = ⊥
+  NumbersStack (And (Cell.Scanned g) bits) = ⊥
+  NumbersStack (Add (Cell.Scanned g) more) = ⊥
+  NumbersStack (Swap (Cell.Scanned g) old new) = ⊥
   NumbersStack _ = Unit {0}
 
 -- so it is awake then
-pub awake_at : (found : ℕ) (from : Party) (s : Stage) (q : Ask) (to : Party) (then : Stage) (g value : ℕ) → q ≡ Store (cell.Scanned g) value → StageGoes found from s q to then → IsAwake s
+pub awake_at : (found : ℕ) (from : Party) (s : Stage) (q : Ask) (to : Party) (then : Stage) (g value : ℕ) → q ≡ Store (Cell.Scanned g) value → StageGoes found from s q to then → IsAwake s
 awake_at found from s q to then g value is goes = grind arith
 
 -- and what it knows of the phase is what it knows between two polls
 module _ (l : Layout) (m : Processor) (g value : ℕ) where
-  pub knows_at : (t : Task) → Store (cell.Scanned g) value ≡ asks_at l m t → (party_at m.poll t).view ≡ m.poll.local.view
+  pub knows_at : (t : Task) → Store (Cell.Scanned g) value ≡ asks_at l m t → (party_at m.poll t).view ≡ m.poll.local.view
   knows_at t is = grind arith
 
 -- so its steps leave the numbers

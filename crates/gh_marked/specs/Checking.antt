@@ -1,33 +1,29 @@
 -- What the coordinator's stage says while a cycle is marked: in its check, that the words which it has looked at are as wanted; and behind it, that all are. And where each step of it leads.
-use Rattle.std.proofs.Common.{◌≡◌, ℕ, ◌+◌, ◌<◌, ◌≤◌, ◌==◌, Bool, true, false, cond, ltb, leb, not, ◌||◌, refl, sym, subst, arith, Option}
-use Rattle.gh_base.specs.declared.cell.Cell.TheVariants as cell
-use Rattle.gh_marks.specs.Moves.{IsQuietInMarking}
-use Rattle.gh_phase.specs.declared.view.RunPhase.TheVariants as run
-use Rattle.gh_coord.specs.declared.watch.WatchStage.TheVariants as watch_stage
+use Rattle.std.proofs.Common.{◌≡◌, ℕ, ◌+◌, ◌<◌, ◌≤◌, ◌==◌, Bool, true, false, cond, ltb, leb, not, ◌||◌, refl, sym, subst, arith, Option, ltb-false}
+use Rattle.gh_marked.specs.Vocabulary.{after_check, after_close, after_open, Ask, asks_at, at_stage, buffer_of, buffers_of, Cell, cell_of, Coordinating, effect, goes_at, is_busy, IsBeginning, IsQuietInMarking, Layout, nat_tests, Shared, Words}
 use Rattle.gh_coord.specs.Handshake.{close_post, Marks, post_at}
 use Rattle.gh_coord.specs.Closing as close
 use Rattle.gh_coord.specs.Events.{by_event}
-use Rattle.gh_coord.specs.Listing.{is_busy}
 use Rattle.gh_coord.specs.Opening as opens_by
 use Rattle.gh_coord.specs.Watching as watch
 use Rattle.gh_coord.specs.Watching.{cell_at, is_wanted, words_of}
-use Rattle.gh_marked.specs.LemmaVocabulary.{after_check, after_close, after_open, All, Ask, asks_at, at_stage, buffer_of, buffers_of, Cell, cell_of, Check, Close, CloseStage, Coordinating, CoordStage, Done, effect, goes_at, holder_in, IsBeginning, Layout, ltb-false, nat_tests, NotYet, Open, OpenStage, RunPhase, Marking as Shared, Stopped, Watched, WatchStage, Words}
+use Rattle.gh_marked.specs.LemmaVocabulary.{All, Check, Close, CloseStage, CoordStage, Done, holder_in, NotYet, Open, OpenStage, RunPhase, Stopped, Watched, WatchStage}
 use Rattle.gh_marked.specs.Beside.{LeavesHeap}
 use Rattle.gh_coord.specs.Handshake as leading
 
 -- all watched words are as wanted
 pub record Found (l : Layout) (number : ℕ) (words : Words) : Type 0 where
-  pub cursor : l.globals ≤ words cell.Gcur
-  pub stacks : (g : ℕ) → g < l.goroutines → number ≤ words (cell.Scanned g)
-  pub empty : (b : ℕ) → b < buffers_of l → holder_in (words (cell.Buffer b)) ≡ 0 → (buffer_of (words (cell.Buffer b))).count ≡ 0
+  pub cursor : l.globals ≤ words Cell.Gcur
+  pub stacks : (g : ℕ) → g < l.goroutines → number ≤ words (Cell.Scanned g)
+  pub empty : (b : ℕ) → b < buffers_of l → holder_in (words (Cell.Buffer b)) ≡ 0 → (buffer_of (words (Cell.Buffer b))).count ≡ 0
 
 module _ (l : Layout) (number : ℕ) (words : Words) where
   abbrev IsWanted : ℕ → Type 0
   IsWanted i = is_wanted l number (cell_at l i) (words (cell_at l i)) ≡ true
 
   abbrev pub StageSees : WatchStage → Type 0
-  StageSees (watch_stage.Look i) = (j : ℕ) → j < i → IsWanted j
-  StageSees (watch_stage.Ended w) = ⊥
+  StageSees (WatchStage.Look i) = (j : ℕ) → j < i → IsWanted j
+  StageSees (WatchStage.Ended w) = ⊥
 
   pub record Sees (w : watch.Watching) : Type 0 where
     pub cycle_is : w.cycle ≡ number
@@ -43,10 +39,10 @@ module _ (l : Layout) (number : ℕ) (words : Words) where
     wanted_at : (j : ℕ) (c : Cell) → cell_at l j ≡ c → j < words_of l → is_wanted l number c (words c) ≡ true
     wanted_at j c e m = subst (λ (x : Cell). is_wanted l number x (words x) ≡ true) e (seen j m)
 
-    stack_at : (g : ℕ) → g < l.goroutines → cell_at l (g + 1) ≡ cell.Scanned g
+    stack_at : (g : ℕ) → g < l.goroutines → cell_at l (g + 1) ≡ Cell.Scanned g
     stack_at g m = grind arith
 
-    buffer_at : (b : ℕ) → cell_at l (b + l.goroutines + 1) ≡ cell.Buffer b
+    buffer_at : (b : ℕ) → cell_at l (b + l.goroutines + 1) ≡ Cell.Buffer b
     buffer_at b = grind arith
 
     empty_so : (word : ℕ) → (not ((buffer_of word).holder == 0) || ((buffer_of word).count == 0)) ≡ true → holder_in word ≡ 0 → (buffer_of word).count ≡ 0
@@ -54,9 +50,9 @@ module _ (l : Layout) (number : ℕ) (words : Words) where
 
     pub all_found : Found l number words
     all_found = record {
-      cursor = let yes : leb l.globals (words cell.Gcur) ≡ true = wanted_at 0 cell.Gcur refl (omega arith) in grind (arith, nat_tests);
-      stacks = λ g m. let yes : leb number (words (cell.Scanned g)) ≡ true = wanted_at (g + 1) (cell.Scanned g) (stack_at g m) (omega arith) in grind (arith, nat_tests);
-      empty = λ b m h. empty_so (words (cell.Buffer b)) (wanted_at (b + l.goroutines + 1) (cell.Buffer b) (buffer_at b) (omega arith)) h;
+      cursor = let yes : leb l.globals (words Cell.Gcur) ≡ true = wanted_at 0 Cell.Gcur refl (omega arith) in grind (arith, nat_tests);
+      stacks = λ g m. let yes : leb number (words (Cell.Scanned g)) ≡ true = wanted_at (g + 1) (Cell.Scanned g) (stack_at g m) (omega arith) in grind (arith, nat_tests);
+      empty = λ b m h. empty_so (words (Cell.Buffer b)) (wanted_at (b + l.goroutines + 1) (Cell.Buffer b) (buffer_at b) (omega arith)) h;
     }
 
 -- a step that changes no word which marking reads, and none of pages, slots, pointer bits and the cursor
@@ -90,10 +86,10 @@ module _ (l : Layout) (number : ℕ) (words : Words) (s : Coordinating) (marks :
 
   -- behind a look at word i
   abbrev behind_look : watch.Watching → (i : ℕ) → (b d : Bool) → watch.Watching
-  behind_look w i b d = watch.at_stage w (cond b (cond d (watch_stage.Look (i + 1)) (watch_stage.Ended All)) (watch_stage.Ended NotYet))
+  behind_look w i b d = watch.at_stage w (cond b (cond d (WatchStage.Look (i + 1)) (WatchStage.Ended All)) (WatchStage.Ended NotYet))
 
-  looking : (w : watch.Watching) (i found : ℕ) → w.stage ≡ watch_stage.Look i → w.cycle ≡ number → found ≡ words (cell_at l i) → StageSees l number words (watch_stage.Look i) →
-      CheckedAt l number words (after_check (at_stage u (Check (watch.goes_at l w (watch_stage.Look i) found))) (watch.given (watch.goes_at l w (watch_stage.Look i) found))).stage
+  looking : (w : watch.Watching) (i found : ℕ) → w.stage ≡ WatchStage.Look i → w.cycle ≡ number → found ≡ words (cell_at l i) → StageSees l number words (WatchStage.Look i) →
+      CheckedAt l number words (after_check (at_stage u (Check (watch.goes_at l w (WatchStage.Look i) found))) (watch.given (watch.goes_at l w (WatchStage.Look i) found))).stage
   looking w i found e c f seen = go (is_wanted l w.cycle (cell_at l i) found) (ltb (i + 1) (words_of l)) refl refl where
     wanted : is_wanted l w.cycle (cell_at l i) found ≡ true → IsWanted l number words i
     wanted y = subst (λ (n : ℕ). is_wanted l n (cell_at l i) (words (cell_at l i)) ≡ true) c (subst (λ (v : ℕ). is_wanted l w.cycle (cell_at l i) v ≡ true) f y)
@@ -121,15 +117,15 @@ module _ (l : Layout) (number : ℕ) (words : Words) (s : Coordinating) (marks :
   goes_so p found b f = by_event l u found (To p) p (λ e may. grind (arith, watching_quiet))
 
 -- the world is stopped while marking is being ended
-pub still_stopped : (p : CloseStage) → close.is_marking p ≡ true → close_post p ≡ Stopped run.Mark
+pub still_stopped : (p : CloseStage) → close.is_marking p ≡ true → close_post p ≡ Stopped RunPhase.Mark
 still_stopped p on = grind arith
 
 -- What a stage says while a cycle is marked lasts where the world is stopped, since no word changes then; at other stages it says nothing of words.
 pub checked_lasts : (l : Layout) (number : ℕ) (words then : Words) (p : CoordStage) → Marks p → ((phase : RunPhase) → post_at p ≡ Stopped phase → then ≡ words) → CheckedAt l number words p → CheckedAt l number then p
-checked_lasts l number words then (Check w) on still h = subst (λ (x : Words). CheckedAt l number x (Check w)) (sym (still run.Mark refl)) h
-checked_lasts l number words then (Close c) on still h = subst (λ (x : Words). CheckedAt l number x (Close c)) (sym (still run.Mark (still_stopped c.stage on))) h
+checked_lasts l number words then (Check w) on still h = subst (λ (x : Words). CheckedAt l number x (Check w)) (sym (still RunPhase.Mark refl)) h
+checked_lasts l number words then (Close c) on still h = subst (λ (x : Words). CheckedAt l number x (Close c)) (sym (still RunPhase.Mark (still_stopped c.stage on))) h
 checked_lasts l number words then _ on still h = tt
 
 -- where a cycle begins the world is stopped
-pub begin_post : (p : CoordStage) → IsBeginning p → leading.post_at p ≡ Stopped run.Off
+pub begin_post : (p : CoordStage) → IsBeginning p → leading.post_at p ≡ Stopped RunPhase.Off
 begin_post p b = grind arith

@@ -1,15 +1,9 @@
 -- A cycle goes on to be drawn: each entry leads from a picture of the one state to a picture of the other. So its picture has the invariants, and marking has what they say.
 use Rattle.std.proofs.Common.{◌≡◌, ℕ, ◌+◌, List, ◌∷◌}
-use Rattle.gh_tri.specs.Invariants.{Invariants, Opens as OpeningsHold}
-use Rattle.gh_tri.specs.Steps.{EachStepKeepsTheInvariants}
-use Rattle.gh_tri.specs.Tricolour.{Tricolour}
-use Rattle.gh_marks.specs.Ends.{Opens}
-use Rattle.gh_marks.specs.Picture.{BeginsDrawn, CyclesBeginDrawn, EachStepIsDrawn, IsDrawn, many, MarkingEndsDrawn, WhatThePictureSays}
+use Rattle.gh_marked.specs.Vocabulary.{arena, BeginsDrawn, Coordinating, Cycle, CyclesBeginDrawn, EachStepIsDrawn, EachStepKeepsTheInvariants, EndsClean, Entry, Invariants, IsChecked, IsDrawn, IsStateOf, many, Marking, MarkingEndsDrawn, MarkingGood, Op, OpeningsHold, Opens, Setup, Tricolour, Went, WhatThePictureSays, words}
 use Rattle.gh_marked.specs.Drawn.{begins, CycleIsDrawn, Drawing, steps}
-use Rattle.gh_lists.specs.Marking.{IsStateOf}
 use Rattle.gh_marked.specs.Tied.{IsOfHeap, IsTied}
-use Rattle.gh_marked.specs.LemmaVocabulary.{arena, Coordinating, Cycle, EndsClean, Entry, IsChecked, IsDrawnSo, IsToBegin, Marking, MarkingGood, Op, Went, words}
-use Rattle.gh_lists.specs.Handshake.{Setup}
+use Rattle.gh_marked.specs.LemmaVocabulary.{IsDrawnSo, IsToBegin}
 
 -- what is known of the picture
 pub record DrawnKnown : Type 0 where

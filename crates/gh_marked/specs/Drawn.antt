@@ -1,18 +1,8 @@
 -- A cycle in the picture of the argument for the write barrier (`gh_tri`): from where it begins on, each step of the list, of whichever actor, is a list of moves of the picture, each of which may be made, and of changes of registers.
 use Rattle.std.specs.Prelude.{◌≡◌, ℕ, ◌+◌, ◌≤◌, List, ◌∷◌}
-use Rattle.gh_marked.specs.Vocabulary.{Coordinating, Entry, Op, opening_words, Words, words_after}
-use Rattle.gh_base.specs.Rows.{Row}
-use Rattle.gh_tri.specs.Invariants.{Invariants, IsMarkingDone, IsOpeningPicture}
-use Rattle.gh_tri.specs.Steps.{Goes}
-use Rattle.gh_tri.specs.Tricolour.{Tricolour}
-use Rattle.gh_marks.specs.Colours.{Cycle, Shared as Marking}
-use Rattle.gh_marks.specs.Moves.{Went}
-use Rattle.gh_marks.specs.Picture.{ThePictureSays}
+use Rattle.gh_marked.specs.Vocabulary.{arena_of, Coordinating, Cycle, Entry, Goes, Invariants, IsBeginning, IsChecked, IsLedBy, IsMarkingDone, IsOpeningPicture, IsStateOf, Marking, Op, opening_words, Row, Setup, ThePictureSays, Tricolour, Went, Words, words_after}
 use Rattle.gh_marks.specs.Shows.{Shows}
-use Rattle.gh_lists.specs.Marking.{IsBeginning, IsChecked, IsLedBy, IsStateOf}
-use Rattle.gh_lists.specs.Processors.{arena_of}
 use Rattle.gh_marked.specs.Tied.{IsOfHeap, IsTied}
-use Rattle.gh_lists.specs.Handshake.{Setup}
 
 module _ (setup : Setup) where
   -- the words after the list

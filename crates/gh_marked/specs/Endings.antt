@@ -1,34 +1,32 @@
 -- A goroutine ends with the step of its end alone, and has ended for good. A processor that leaves does nothing else any more.
 use Rattle.std.proofs.Common.{◌≡◌, ℕ, ◌⊎◌, inl, inr, Bool, true, false, cond, refl, sym, ap, ◌∙◌, arith, List, Option, Some, None, eq-eqb}
-use Rattle.gh_base.specs.declared.operation.Op.TheVariants as op
-use Rattle.gh_mutator.specs.declared.task.Task.TheVariants as task
+use Rattle.gh_marked.specs.Vocabulary.{Act, acted, acts, acts_at, after_assist, after_gc, after_poll, answer_at, begins_at, ends-by, Ever, follows, is_busy_at, Layout, Name, NewStage, Op, Processor, Shape, takes_at, Task}
 use Rattle.gh_mutator.specs.New as new
 use Rattle.gh_poll.specs.Wait as wait
-use Rattle.gh_marked.specs.LemmaVocabulary.{Act, acted, acts, acts_at, after_assist, after_gc, after_poll, answer_at, Assisting, begins_at, Ever, follows, Found, is_busy_at, is_last_task, Layout, Name, NewStage, Op, Placing, Polling, Processor, Seeking, Shape, takes_at, Task, Then, Wanted}
-use Rattle.gh_lists.specs.Beginning.{ends-by}
+use Rattle.gh_marked.specs.LemmaVocabulary.{Assisting, Found, is_last_task, Placing, Polling, Seeking, Then, Wanted}
 
 -- Its step is that of its end, or is not.
-pub is_its_end : (t : Task) (g : ℕ) → (t ≡ task.End g) ⊎ (t ≡ task.End g → ⊥)
+pub is_its_end : (t : Task) (g : ℕ) → (t ≡ Task.End g) ⊎ (t ≡ Task.End g → ⊥)
 is_its_end t g = grind arith
 
-pub acts_end : (l : Layout) (m : Processor) (t : Task) (found : ℕ) (p : Act) (g : ℕ) → acts_at l m t found ≡ Some p → p.op ≡ op.End g → t ≡ task.End g
+pub acts_end : (l : Layout) (m : Processor) (t : Task) (found : ℕ) (p : Act) (g : ℕ) → acts_at l m t found ≡ Some p → p.op ≡ Op.End g → t ≡ Task.End g
 acts_end l m t found p g is end = grind arith
 
 module _ (l : Layout) (shapes : List Shape) (m : Processor) (found : ℕ) (e : Ever) (g : ℕ) where
   pub acted_stays : (p : Option Act) → e.ended g ≡ true → (acted shapes e p).ended g ≡ true
   acted_stays p is = grind arith
 
-  acted_back : (p : Option Act) → acts l m found ≡ p → (acted shapes e p).ended g ≡ true → (e.ended g ≡ true) ⊎ (m.task ≡ task.End g)
+  acted_back : (p : Option Act) → acts l m found ≡ p → (acted shapes e p).ended g ≡ true → (e.ended g ≡ true) ⊎ (m.task ≡ Task.End g)
   acted_back None at is = inl is
   acted_back (Some x) at is = elim (ends-by shapes e x.op (answer_at shapes e x) g is) [
     | inl y ↦ inl y
     | inr y ↦ inr (acts_end l m m.task found x g at y)
   ]
 
-  pub ended_by : (acted shapes e (acts l m found)).ended g ≡ true → (e.ended g ≡ true) ⊎ (m.task ≡ task.End g)
+  pub ended_by : (acted shapes e (acts l m found)).ended g ≡ true → (e.ended g ≡ true) ⊎ (m.task ≡ Task.End g)
   ended_by is = grind (arith, acted_back)
 
-  pub end_ends : m.task ≡ task.End g → (acted shapes e (acts l m found)).ended g ≡ true
+  pub end_ends : m.task ≡ Task.End g → (acted shapes e (acts l m found)).ended g ≡ true
   end_ends is = ap (λ (t : Task). (acted shapes e (acts_at l m t found)).ended g) is ∙ ap (λ (b : Bool). cond b true (e.ended g)) (eq-eqb g g refl)
 
 -- A processor that leaves.
@@ -66,5 +64,5 @@ module _ (l : Layout) (shapes : List Shape) (m : Processor) (found : ℕ) where
   last_before t busy is = grind (arith, follows_none, gc_none, new_none, other, poll_none)
 
 -- and began to leave with a leave
-pub last_begun : (shapes : List Shape) (m : Processor) (o : Op) → is_last_task (begins_at shapes m o) ≡ true → o ≡ op.Leave
+pub last_begun : (shapes : List Shape) (m : Processor) (o : Op) → is_last_task (begins_at shapes m o) ≡ true → o ≡ Op.Leave
 last_begun shapes m o is = grind arith

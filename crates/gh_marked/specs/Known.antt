@@ -1,43 +1,28 @@
 -- What lower crates say, as the lemmas of lists of all actors use it.
 use Rattle.std.proofs.Common.{ℕ, List, ◌∷◌}
-use Rattle.gh_assist.specs.Within.{TakingAndScanningAreWithin}
+use Rattle.gh_marked.specs.Vocabulary.{BoundsLast, CalmProcessorsMarkNothing, ChangesOneCell, Coordinating, CountsCycles, CountsPlainly, CountsWants, CyclesBeginBeside, CyclesBeginSo, Entry, IsFew, IsInLimits, IsLed, KeepsIt, Layout, Legal, MarkingAloneGoesBeside, MarkingBegins, MarksByMoves, MarksStayWords, ObjectsAreKnownBeside, OnlyPointsChange, Op, PlacesAreDecided, ProcessorsDeedsFit, ProcessorWritesItsOwn, RowsAreWritten, Setup, ShapesAreGood, StacksAreNoted, StepKeepsIt, SweepsByTheState, TheMarkedStand, TheMarkedWereReached, TheReachedAreMarkedBeside, TheReachedWereMade, those, WhatHasGoneOnLasts, words_after, WorkersAreRoutines}
 use Rattle.gh_base.specs.Footprints.{FootprintsHold}
-use Rattle.gh_base.specs.Rows.{RowsAreWritten}
 use Rattle.gh_heap.specs.Laws.{EachFactLasts, EachMoveLeaves, EachMoveReachesNoMore, TheHeapIsApart}
 use Rattle.gh_sweep.specs.AtEnd.{TheBitsAreObjects}
-use Rattle.gh_marks.specs.Laws.{MarksStayWords}
 use Rattle.gh_state.specs.Cycles.{CountsAreTold, CyclesEnd, HeapsOpen, TheSweepIsTold}
 use Rattle.gh_state.specs.Cycles as state
 use Rattle.gh_state.specs.Laws as state_laws
-use Rattle.gh_state.specs.Routines.{SweepsByTheState}
 use Rattle.gh_state.specs.Walkers.{WalkersPass}
-use Rattle.gh_cycle.specs.Beside.{CyclesBeginBeside, MarkingAloneGoesBeside, ObjectsAreKnownBeside, TheMarkedStand, TheReachedAreMarkedBeside}
 use Rattle.gh_cycle.specs.Opening.{CyclesOpen}
-use Rattle.gh_cycle.specs.Reached.{BoundsLast, PlacesAreDecided, TheReachedWereMade}
-use Rattle.gh_cycle.specs.Since.{CyclesBeginSo, TheMarkedWereReached, WhatHasGoneOnLasts}
 use Rattle.gh_mutator_heap.specs.Beside.{GoesOnBesideMarking}
-use Rattle.gh_mutator_writes.specs.Calm.{CalmProcessorsMarkNothing}
-use Rattle.gh_mutator.specs.Deeds.{OnlyPointsChange, ProcessorsDeedsFit}
-use Rattle.gh_mutator.specs.ProcessorMarks.{MarksByMoves}
 use Rattle.gh_mutator_heap.specs.Runs.{RunsByItsRights}
 use Rattle.gh_mutator_heap.specs.Sweeping.{ProcessorsRunSweeps}
-use Rattle.gh_mutator_writes.specs.Writing.{StacksAreNoted}
 use Rattle.gh_worker.specs.Places.{WorkersKeepPlaces}
-use Rattle.gh_worker.specs.Routine.{WorkersAreRoutines}
+use Rattle.gh_worker.specs.Routine.{WorkersStayWithin}
 use Rattle.gh_worker.specs.Sweeping.{WorkersRunSweeps}
 use Rattle.gh_worker.specs.Writing.{CalmWorkersMarkNothing}
 use Rattle.gh_coord.specs.PartsRoutines.{PartsAreRoutines}
 use Rattle.gh_coord.specs.Sweeping.{TheCoordinatorRunsSweeps}
 use Rattle.gh_coord.specs.Within.{TheCoordinatorStaysWithin}
-use Rattle.gh_lists.specs.Counts.{CountsPlainly}
 use Rattle.gh_lists.specs.Waits.{StackGoes, StacksAreNumbered, WorkersRest}
-use Rattle.gh_lists.specs.Wants.{CountsWants}
-use Rattle.gh_marked.specs.LemmaVocabulary.{ChangesOneCell, Coordinating, CountsCycles, Entry, IsFew, IsLed, KeepsIt, Layout, Legal, MarkingBegins, Op, ProcessorInHandshake, ProcessorWritesItsOwn, StepKeepsIt, those, words_after, WorkersWriteTheirOwn}
+use Rattle.gh_marked.specs.LemmaVocabulary.{ProcessorInHandshake, WorkersWriteTheirOwn}
 use Rattle.gh_marked.specs.Drawing.{DrawnKnown}
 use Rattle.gh_lists.specs.Changes.{Change, Rises}
-use Rattle.gh_lists.specs.Handshake.{Setup}
-use Rattle.gh_lists.specs.Marking.{IsInLimits}
-use Rattle.gh_mutator_heap.specs.Facts.{ShapesAreGood}
 
 -- of steps and moves
 pub record Known : Type 0 where
@@ -69,6 +54,7 @@ pub record Known : Type 0 where
   pub workers_places : WorkersKeepPlaces
   pub workers_write : WorkersWriteTheirOwn
   pub workers_calm : CalmWorkersMarkNothing
+  pub workers_within : WorkersStayWithin
   pub mark_words : MarksStayWords
   pub heaps_open : HeapsOpen
   pub cycles_open : state.CyclesOpen
@@ -90,7 +76,6 @@ pub record Known : Type 0 where
   pub beside : GoesOnBesideMarking
   pub marking : MarkingBegins
   pub fit : ProcessorsDeedsFit
-  pub taking : TakingAndScanningAreWithin
   pub drawn : DrawnKnown
 
 -- of a heap that is set up so, and of its lists

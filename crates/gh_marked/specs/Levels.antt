@@ -1,12 +1,6 @@
 -- With each move of marking an object keeps its colour or goes on to a later one, and a global keeps how far it is or goes on. So what is scanned stays scanned.
 use Rattle.std.proofs.Common.{◌≡◌, ◌⊎◌, inl, inr, ℕ, ◌<◌, ◌≤◌, refl, ap, arith}
-use Rattle.std.proofs.lemmas.Bool.Decides.{eqb_tells, nat_tests}
-use Rattle.gh_base.specs.declared.cell.Cell.TheVariants as cell
-use Rattle.gh_heap.specs.Moves.{update}
-use Rattle.gh_marks.specs.Colours.{Black, Buffered, Claimed, Colour, Cycle, Pending, Placing, Progress, Read, Scanned, Shared, Taken, Untouched, White}
-use Rattle.gh_marks.specs.Good.{Good}
-use Rattle.gh_marks.specs.Laws.{EachStepGoesByMoves}
-use Rattle.gh_marks.specs.Moves.{ClaimGlobal, goes, May, Move, moved, ReadGlobal, ScanGlobal, stays, Went}
+use Rattle.gh_marked.specs.Vocabulary.{Black, Buffered, Cell, Claimed, ClaimGlobal, Colour, Cycle, EachStepGoesByMoves, eqb_tells, goes, Good, May, Move, moved, nat_tests, Pending, Placing, Progress, Read, ReadGlobal, ScanGlobal, Scanned, Shared, stays, Taken, Untouched, update, Went, White}
 
 abbrev pub level : Colour → ℕ
 level White = 0
@@ -49,7 +43,7 @@ module _ (z : Cycle) (a : ℕ) (s : Shared) (none : NoneBeyond z s) where
 
   beyond : (m : Move) → May z a s m → NoneBeyond z (moved z a s m)
   beyond (ClaimGlobal i) may j le = one_there i (Claimed a) may.1 j le
-  beyond (ReadGlobal i) may j le = let is = ap far may in one_there i (Read a (s.words (cell.Global i))) (there i (omega (arith, is))) j le
+  beyond (ReadGlobal i) may j le = let is = ap far may in one_there i (Read a (s.words (Cell.Global i))) (there i (omega (arith, is))) j le
   beyond (ScanGlobal i value) may j le = let is = ap far may.0 in one_there i Scanned (there i (omega (arith, is))) j le
   beyond _ may j le = none j le
 

@@ -1,9 +1,6 @@
 -- What an actor's own entries say: its state, and which goroutines they end.
-use Rattle.std.proofs.Common.{◌≡◌, ℕ, ◌<◌, ◌==◌, ◌⊎◌, zero, suc, not, Bool, true, false, cond, refl, ap, arith, List, [], ◌∷◌, Option, Some}
-use Rattle.std.specs.Prelude.{◌||◌}
-use Rattle.gh_base.specs.declared.operation.Op.TheVariants as op
-use Rattle.gh_marked.specs.LemmaVocabulary.{all_ended, Arena, by, ended_in, ends, Entry, Kind, Op, started, state_of}
-use Rattle.gh_lists.specs.Beginning.{both}
+use Rattle.std.proofs.Common.{◌≡◌, ℕ, ◌<◌, ◌==◌, ◌⊎◌, zero, suc, not, Bool, true, false, cond, refl, ap, arith, List, [], ◌∷◌, Option, Some, ◌||◌}
+use Rattle.gh_marked.specs.Vocabulary.{all_ended, Arena, both, by, ended_in, ends, Entry, Kind, Op, started, state_of}
 
 -- a state depends on its actor's own entries alone
 pub state_by : {M O : Type 0} (k : Kind M O) (a : ℕ) (es : List (Entry O)) → state_of k a (by a es) ≡ state_of k a es
@@ -22,7 +19,7 @@ pub or_cases : (b c : Bool) → (b || c) ≡ true → (b ≡ true) ⊎ (c ≡ tr
 or_cases b c x = grind arith
 
 -- an operation that ends a goroutine is its end
-pub began_end : (o : Option Op) (g : ℕ) → ends o g ≡ true → o ≡ Some (op.End g)
+pub began_end : (o : Option Op) (g : ℕ) → ends o g ≡ true → o ≡ Some (Op.End g)
 began_end o g x = grind arith
 
 -- each goroutine of the seat has ended

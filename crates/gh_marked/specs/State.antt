@@ -1,22 +1,15 @@
 -- The one state of the heap and its sweep that there is after every list of all actors; what it is to the list, and what is known beside it while a cycle is marked.
-use Rattle.std.specs.Prelude.{◌≡◌, ◌↔◌, ℕ, ◌<◌, ◌≤◌, ◌⊎◌, Bool, true, false, List, ◌++◌, slice_index, Option, Some, None}
 use Rattle.std.specs.Option.{option_to_list}
-use Rattle.std.proofs.Common.{inl, inr}
-use Rattle.gh_base.specs.declared.cell.Cell.TheVariants as cell
-use Rattle.gh_base.specs.declared.pack.TheConstants.{END}
-use Rattle.gh_base.specs.declared.operation.Op.TheVariants as op
-use Rattle.gh_base.specs.Lists.{by}
-use Rattle.gh_base.specs.Cells.{seats_of}
-use Rattle.gh_mutator.specs.declared.task.Task.TheVariants as task
+use Rattle.std.proofs.Common.{inl, inr, ◌≡◌, ◌↔◌, ℕ, ◌<◌, ◌≤◌, ◌⊎◌, Bool, true, false, List, ◌++◌, slice_index, Option, Some, None}
+use Rattle.gh_marked.specs.Vocabulary.{actors_after, answers_of, Arena, arena, BeginsCycle, by, Cell, Coordinating, Cycle, deeds, END, ended_in, Entry, Ever, ever, given_of, HasGoneOn, Heap, IsBeside, IsBounded, IsLed, IsOf, IsPlacedAt, IsSound, IsStartOf, mark_words, Marking, Name, Op, opening_words, Processor, processor_kind, ProcessorFacts, Right, seats_of, Setup, State, state_of, Task, Told, view, Words, words}
 use Rattle.gh_marked.specs.HeapBytes.{uncounted}
 use Rattle.gh_marked.specs.Sweepers.{IsInSweep, sweep_of}
-use Rattle.gh_marked.specs.HoldVocabulary.{actors_after, Answer, answers_of, arena, Arena, AreWords, BeginsCycle, Coordinating, Cycle, deeds, ended_in, Entry, Ever, ever, ProcessorFacts, given_of, HasGoneOn, Heap, IsBeside, IsBounded, IsDrawnSo, IsLed, IsOf, IsPlacedAt, IsSound, IsStartOf, IsToBegin, mark_words, Marking, Name, Op, opening_words, Processor, processor_kind, Right, State, state_of, StateGood, Task, Told, view, Words, words}
-use Rattle.gh_lists.specs.Handshake.{Setup}
+use Rattle.gh_marked.specs.HoldVocabulary.{Answer, AreWords, IsDrawnSo, IsToBegin, StateGood}
 
 -- it leaves, or has left
 abbrev pub is_last_task : Task → Bool
-is_last_task (task.Leave x) = true
-is_last_task task.Left = true
+is_last_task (Task.Leave x) = true
+is_last_task Task.Left = true
 is_last_task _ = false
 
 -- a cycle is opened or marked
@@ -37,10 +30,10 @@ module _ (setup : Setup) where
     pub pending : Option Answer
     pub fine : ProcessorFacts z a (view h) m pending
     pub answers : answers_of z (opening_words setup.pacing.trigger) a es ≡ option_to_list pending ++ given_of z (opening_words setup.pacing.trigger) a es
-    pub notes : (g : ℕ) → IsOf z a g → slice_index m.poll.local.scanned g ≡ h.words (cell.Scanned g)
+    pub notes : (g : ℕ) → IsOf z a g → slice_index m.poll.local.scanned g ≡ h.words (Cell.Scanned g)
     -- a goroutine of its own has ended, or ends now, exactly where that was begun
-    pub ended : (g : ℕ) → IsOf z a g → ((deeds setup.layout setup.shapes).unacted m ≡ Some (op.End g)) ⊎ (h.ever.ended g ≡ true) → ended_in (by a es) g ≡ true
-    pub ends : (g : ℕ) → IsOf z a g → ended_in (by a es) g ≡ true → ((deeds setup.layout setup.shapes).unacted m ≡ Some (op.End g)) ⊎ (h.ever.ended g ≡ true)
+    pub ended : (g : ℕ) → IsOf z a g → ((deeds setup.layout setup.shapes).unacted m ≡ Some (Op.End g)) ⊎ (h.ever.ended g ≡ true) → ended_in (by a es) g ≡ true
+    pub ends : (g : ℕ) → IsOf z a g → ended_in (by a es) g ≡ true → ((deeds setup.layout setup.shapes).unacted m ≡ Some (Op.End g)) ⊎ (h.ever.ended g ≡ true)
     pub left : is_last_task m.task ≡ true → (g : ℕ) → IsOf z a g → h.ever.ended g ≡ true
 
   -- a state of the heap is that of this list
@@ -52,8 +45,8 @@ module _ (setup : Setup) where
     -- nobody else has a right
     pub others : (a : ℕ) → setup.layout.procs ≤ a → Right a (view h) false (λ p. false) None
     -- a stack says that its goroutine has ended exactly where it has, and no global beyond these names an object
-    pub stacks : (g : ℕ) → (h.words (cell.Scanned g) ≡ END) ↔ (h.ever.ended g ≡ true)
-    pub globals : (i : ℕ) → setup.layout.globals ≤ i → h.words (cell.Global i) ≡ 0
+    pub stacks : (g : ℕ) → (h.words (Cell.Scanned g) ≡ END) ↔ (h.ever.ended g ≡ true)
+    pub globals : (i : ℕ) → setup.layout.globals ≤ i → h.words (Cell.Global i) ≡ 0
 
   -- it has begun; in the last one no value has changed since
   pub record IsInCycle (es : List (Entry Op)) (k : ℕ) : Type 0 where
@@ -94,7 +87,7 @@ module _ (setup : Setup) where
     pub drawn : (room : ℕ) → IsDrawnSo setup c s es room
     pub marks_fit : AreWords (mark_words has.state.heap.words)
     -- nothing of the next sweep is counted
-    pub counts : (has.state.heap.words cell.Tally ≡ 0) × (has.state.heap.words cell.Live ≡ 0)
+    pub counts : (has.state.heap.words Cell.Tally ≡ 0) × (has.state.heap.words Cell.Live ≡ 0)
 
   -- there is such a state of marking
   pub record IsMarking (es : List (Entry Op)) : Type 0 where

@@ -1,25 +1,9 @@
 -- What ties a state of marking to a list of all actors: to its words, to the heap that never frees, and to what each actor is at.
 use Rattle.std.specs.Prelude.{◌≡◌, ◌≢◌, ℕ, ◌+◌, ◌<◌, ◌≤◌, ◌↔◌, true, false, List}
-use Rattle.gh_base.specs.declared.cell.Cell.TheVariants as cell
-use Rattle.gh_base.specs.declared.limits.TheConstants.{REGISTERS}
-use Rattle.gh_base.specs.declared.pack.TheConstants.{END}
-use Rattle.gh_base.specs.Rows.{mark_words}
+use Rattle.gh_marked.specs.Vocabulary.{acks_of, actors, Arena, arena_of, Cell, Cycle, END, Entry, Ever, ever_after_list, Good, Hands, Heap, HeapGood, IsBeside, IsBounded, IsPlacedAt, KnowsObjects, mark_words, MarkFacts, Marking, Marks, Name, nothing, Op, opening_words, processor_kind, Reach, REGISTERS, row_bit, Setup, state_of, view, White, Words, words_after, Working}
 use Rattle.gh_model.specs.declared.EverValue.TheVariants.{Ref}
 use Rattle.gh_heap.specs.Objects.{points, shape_for, size_for}
-use Rattle.gh_heap.specs.Rights.{Good as HeapGood, Shared as Heap}
-use Rattle.gh_marks.specs.Colours.{Cycle, White, Shared as Marking}
-use Rattle.gh_marks.specs.Good.{Good}
-use Rattle.gh_marks.specs.Knows.{KnowsObjects}
-use Rattle.gh_marks.specs.Seats.{Hands, nothing}
-use Rattle.gh_cycle.specs.Beside.{IsBeside}
-use Rattle.gh_cycle.specs.Reached.{IsBounded}
-use Rattle.gh_mutator.specs.ProcessorMarks.{MarkFacts}
-use Rattle.gh_worker.specs.Listing.{Working}
 use Rattle.gh_worker.specs.MarkFacts.{Facts as WorkerFacts}
-use Rattle.gh_lists.specs.declared.handshake.Actor.TheVariants.{Marks}
-use Rattle.gh_marked.specs.Vocabulary.{acks_of, Arena, Entry, Ever, Name, Op, opening_words, processor_kind, Reach, row_bit, state_of, view, Words, words_after}
-use Rattle.gh_lists.specs.Handshake.{actors, Setup}
-use Rattle.gh_lists.specs.Processors.{arena_of, ever_after_list, IsPlacedAt}
 
 module _ (setup : Setup) where
   abbrev z : Arena
@@ -48,7 +32,7 @@ module _ (setup : Setup) where
     -- the page words and the pointer bits of the slots say the same of those objects
     pub objects : KnowsObjects c s
     -- the word of a stack says that its goroutine has ended exactly where it has
-    pub over : (g : ℕ) → (told es (cell.Scanned g) ≡ END) ↔ ((ever_told es).ended g ≡ true)
+    pub over : (g : ℕ) → (told es (Cell.Scanned g) ≡ END) ↔ ((ever_told es).ended g ≡ true)
 
   -- And each actor has in hand, and knows, what its stage says. A processor has in its registers what marking has there; and in a store, from the load of the old value on, it knows that the field holds what was loaded, nil or a marked object, and behind its second shade that what it stores is nil or marked.
   pub record IsTied (es : List (Entry Op)) (c : Cycle) (s : Marking) : Type 0 where

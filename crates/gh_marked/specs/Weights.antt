@@ -1,13 +1,7 @@
 -- How much is scanned so far in a cycle, at most: a word for each object that came into a buffer, the words of each black one, and a word for each scanned global. It only grows, and is no more than there is.
 use Rattle.std.proofs.Common.{◌≡◌, ◌≢◌, ℕ, zero, suc, ◌+◌, ◌*◌, ◌<◌, ◌≤◌, ◌==◌, Bool, true, false, ltb, refl, ap, arith}
-use Rattle.std.proofs.lemmas.Bool.Decides.{nat_tests}
-use Rattle.gh_base.specs.declared.cell.Ask.{Ask}
-use Rattle.gh_base.specs.declared.cell.Cell.{Cell}
-use Rattle.gh_base.specs.declared.layout.Layout.{Layout}
-use Rattle.gh_marks.specs.Colours.{Black, Buffered, Colour, Progress, Scanned, Shared, Taken}
-use Rattle.gh_lists.specs.Counts.{stored_after}
+use Rattle.gh_marked.specs.Vocabulary.{Ask, Black, Buffered, Cell, Colour, Layout, nat_tests, Progress, Scanned, Shared, stored_after, Taken, total}
 use Rattle.gh_marked.specs.Scanned.{most_scanned}
-use Rattle.gh_lists.specs.Wants.{total}
 use Rattle.gh_lists.specs.Sums.{total_below}
 use Rattle.gh_marked.specs.Levels.{far, IsNoEarlier, level}
 

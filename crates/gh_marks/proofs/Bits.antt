@@ -1,12 +1,6 @@
 -- Bits of the rows once one of them is set, and what is said of marks then.
 use Rattle.std.proofs.Common.{◌≡◌, ◌≢◌, ℕ, Bool, true, false, sym, ◌∙◌, arith, inl, inr}
-use Rattle.std.proofs.lemmas.Bool.Decides.{eqb_tells}
-use Rattle.gh_base.specs.Cells.{Words}
-use Rattle.gh_base.specs.Rows.{Row, RowsAreWritten, alloc_words, mark_words, row_bit}
-use Rattle.gh_heap.specs.Moves.{update}
-use Rattle.gh_marks.specs.Colours.{Colour, IsClean, IsMarked, White, mark_of}
-use Rattle.gh_marks.specs.Good.{MarksGood}
-use Rattle.gh_marks.specs.Moves.{set_alloc, set_mark}
+use Rattle.gh_marks.proofs.Vocabulary.{alloc_words, Colour, eqb_tells, IsClean, IsMarked, mark_of, mark_words, MarksGood, Row, row_bit, RowsAreWritten, set_alloc, set_mark, update, White, Words}
 
 pub two-ways : {P : Type 0} {b : Bool} → b ≡ true → b ≡ false → P
 two-ways e f = let clash : true ≡ false = sym e ∙ f in cc

@@ -1,18 +1,6 @@
 -- The end of marking: what the coordinator finds, and that what is dead is white.
 use Rattle.std.proofs.Common.{◌≡◌, ℕ, zero, suc, ◌+◌, ◌%◌, ◌<◌, ◌≤◌, Bool, true, false, arith, refl, sym, ◌∙◌, ap, inl, inr, Some, None}
-use Rattle.std.proofs.lemmas.Bool.Decides.{eqb_tells, nat_tests}
-use Rattle.gh_base.specs.declared.cell.Cell.TheVariants as cell
-use Rattle.gh_base.specs.declared.pack.TheConstants.{ENTRIES}
-use Rattle.gh_base.specs.Cells.{seats_of}
-use Rattle.gh_base.specs.Holding.{holder_in}
-use Rattle.gh_base.specs.Packing.{bit, buffer_of}
-use Rattle.gh_base.specs.Rows.{RowsAreWritten, mark_words, row_bit}
-use Rattle.gh_marks.specs.Colours.{Black, Buffered, Claimed, Colour, Cycle, IsGrey, Pending, Placing, Progress, Read, Scanned, Shared, Taken, Untouched, White}
-use Rattle.gh_marks.specs.Ends.{IsFoundAtTheEnd}
-use Rattle.gh_marks.specs.Good.{Good, seats_among}
-use Rattle.gh_marks.specs.Laws.{EachMoveLeavesTheDead, TheCursorIsSmall, TheDeadAreWhite, WhatIsFoundIsDone}
-use Rattle.gh_marks.specs.Moves.{IsDead, May, Move, Place, Quiet, moved}
-use Rattle.gh_marks.specs.Seats.{ClaimOf, NoClaim, ReadOf}
+use Rattle.gh_marks.proofs.Vocabulary.{bit, Black, buffer_of, Buffered, Cell, Claimed, ClaimOf, Colour, Cycle, EachMoveLeavesTheDead, ENTRIES, eqb_tells, Good, holder_in, IsDead, IsFoundAtTheEnd, IsGrey, mark_words, May, Move, moved, nat_tests, NoClaim, Pending, Place, Placing, Progress, Quiet, Read, ReadOf, row_bit, RowsAreWritten, Scanned, seats_among, seats_of, Shared, Taken, TheCursorIsSmall, TheDeadAreWhite, Untouched, WhatIsFoundIsDone, White}
 use Rattle.gh_marks.proofs.Bits.{alloc-other}
 use Rattle.gh_marks.proofs.Quiet.{ReadRows, Unread, unread}
 
@@ -28,20 +16,20 @@ no-read i v e = cc
 -- Nobody has anything, and no buffer has an entry: so nothing is grey, and no global waits.
 module _ (z : Cycle) (s : Shared) (g : Good z s) (f : IsFoundAtTheEnd z s) where
   -- who holds a buffer would have it in hand
-  nobody-holds : (b : ℕ) → holder_in (s.words (cell.Buffer b)) ≡ 0
-  nobody-holds b = go (holder_in (s.words (cell.Buffer b))) refl where
-    go : (n : ℕ) → holder_in (s.words (cell.Buffer b)) ≡ n → n ≡ 0
+  nobody-holds : (b : ℕ) → holder_in (s.words (Cell.Buffer b)) ≡ 0
+  nobody-holds b = go (holder_in (s.words (Cell.Buffer b))) refl where
+    go : (n : ℕ) → holder_in (s.words (Cell.Buffer b)) ≡ n → n ≡ 0
     go zero e = refl
     go (suc a) e = absurd (((f.seats a).holds.only b).0 (omega (arith, e)))
 
   empty : (b : ℕ) → s.filled b ≡ 0
   empty b =
-      let free : holder_in (s.words (cell.Buffer b)) ≡ 0 = nobody-holds b in
-      let is : s.words (cell.Buffer b) ≡ s.filled b = g.counts.free b free in
+      let free : holder_in (s.words (Cell.Buffer b)) ≡ 0 = nobody-holds b in
+      let is : s.words (Cell.Buffer b) ≡ s.filled b = g.counts.free b free in
       let few : s.filled b ≤ ENTRIES = g.counts.few b in
-      let none : (buffer_of (s.words (cell.Buffer b))).count ≡ 0 = f.empty b free in
-      let word : s.words (cell.Buffer b) % 256 ≡ s.words (cell.Buffer b) = omega (arith, is, few) in
-      let count : (buffer_of (s.words (cell.Buffer b))).count ≡ s.words (cell.Buffer b) = grind (arith, nat_tests, word, is, few) in
+      let none : (buffer_of (s.words (Cell.Buffer b))).count ≡ 0 = f.empty b free in
+      let word : s.words (Cell.Buffer b) % 256 ≡ s.words (Cell.Buffer b) = omega (arith, is, few) in
+      let count : (buffer_of (s.words (Cell.Buffer b))).count ≡ s.words (Cell.Buffer b) = grind (arith, nat_tests, word, is, few) in
       sym is ∙ sym count ∙ none
 
   no-grey : (o : ℕ) → IsGrey (s.colour o) → ⊥

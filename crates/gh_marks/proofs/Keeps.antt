@@ -1,11 +1,6 @@
 -- What each move does to a group: to the objects, to the entries of buffers, to the globals, to values and to the stacks.
 use Rattle.std.proofs.Common.{◌≡◌, ◌≢◌, ℕ, Bool, true, false, ap, ◌∙◌, inl, inr, arith}
-use Rattle.std.proofs.lemmas.Bool.Decides.{eqb_tells}
-use Rattle.gh_base.specs.declared.pack.TheConstants.{END}
-use Rattle.gh_base.specs.Rows.{Row, row_bit}
-use Rattle.gh_heap.specs.Moves.{update, update_at}
-use Rattle.gh_marks.specs.Colours.{Buffered, Colour, Extents, IsGrey, IsMarked, IsShaded, IsSince, Placing, Progress}
-use Rattle.gh_marks.specs.Good.{CursorGood, EntriesGood, ObjectsGood, StacksGood, ValuesGood}
+use Rattle.gh_marks.proofs.Vocabulary.{Buffered, Colour, CursorGood, END, EntriesGood, eqb_tells, Extents, IsGrey, IsMarked, IsShaded, IsSince, ObjectsGood, Placing, Progress, Row, row_bit, StacksGood, update, update_at, ValuesGood}
 use Rattle.gh_marks.proofs.Bits.{clean-grows}
 
 -- an object takes another colour

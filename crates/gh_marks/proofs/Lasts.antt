@@ -1,12 +1,7 @@
 -- What a seat relies on lasts; and what steps of one or two moves leave.
 use Rattle.std.proofs.Common.{◌≡◌, ℕ, ◌+◌, refl, ◌∙◌, inl, ◌⊎◌, Option, Some, None, arith}
-use Rattle.gh_base.specs.declared.cell.Cell.TheVariants as cell
-use Rattle.gh_base.specs.declared.held.Held.{Held}
-use Rattle.gh_base.specs.Holding.{HoldsBuffer, KnowsCount}
-use Rattle.gh_base.specs.Rows.{Row, mark_words}
-use Rattle.gh_marks.specs.Colours.{Cycle, Extents, IsClean, IsMarked, IsPointer, Shared, buffers_as_held}
-use Rattle.gh_marks.specs.Laws.{EachFactLasts, EachHandLasts, EachMoveKeeps, EachMoveLeaves, EachMoveLeavesTheDead, EachStepGoesByMoves, StepsGoByMoves}
-use Rattle.gh_marks.specs.Moves.{Keeps, Others, SameExtent, goes, moved, stays}
+use Rattle.gh_marks.proofs.Vocabulary.{buffers_as_held, Cell, Cycle, EachFactLasts, EachHandLasts, EachMoveKeeps, EachMoveLeaves, EachMoveLeavesTheDead, EachStepGoesByMoves, Extents, goes, Held, HoldsBuffer, IsClean, IsMarked, IsPointer, Keeps, KnowsCount, mark_words, moved, Others, Row, SameExtent, Shared, StepsGoByMoves}
+use Rattle.gh_marks.specs.Moves.{stays}
 use Rattle.gh_marks.proofs.Leaves.{iff-then, others-same, same-iff}
 
 pointer-then : (e f : Extents) (o k : ℕ) → SameExtent e f o → IsPointer e o k → IsPointer f o k
@@ -39,8 +34,8 @@ pub facts-last : EachFactLasts
 facts-last z a s t k = record {
   clean = λ value h o e. k.marks o (h o e);
   since = λ value h o e. k.since o (h o e);
-  field = λ o j i l h. word-clean (mark_words s.words) (mark_words t.words) (s.words (cell.Field (o + j))) (t.words (cell.Field (o + j))) k.marks (k.fields o j i l) h;
-  global = λ i h. word-clean (mark_words s.words) (mark_words t.words) (s.words (cell.Global i)) (t.words (cell.Global i)) k.marks (k.globals i) h;
+  field = λ o j i l h. word-clean (mark_words s.words) (mark_words t.words) (s.words (Cell.Field (o + j))) (t.words (Cell.Field (o + j))) k.marks (k.fields o j i l) h;
+  global = λ i h. word-clean (mark_words s.words) (mark_words t.words) (s.words (Cell.Global i)) (t.words (Cell.Global i)) k.marks (k.globals i) h;
   register = λ g d own h. word-clean (mark_words s.words) (mark_words t.words) (s.registers g d) (t.registers g d) k.marks (inl (k.registers g d own)) h;
   pointer = λ o j i l. pointer-then s.extents t.extents o j (k.extents o i) l;
   pointer_was = λ o j i l. pointer-was s.extents t.extents o j (k.extents o i) l;

@@ -1,17 +1,6 @@
 -- What each move of one seat leaves to another, and what it leaves to that seat itself where it changes no stack.
-use Rattle.std.proofs.Common.{◌≡◌, ◌≢◌, ℕ, ◌+◌, Bool, true, arith, refl, sym, ◌∙◌, ap, inl, inr, ◌⊎◌, subst}
-use Rattle.std.specs.Prelude.{◌↔◌}
-use Rattle.std.proofs.lemmas.Bool.Decides.{nat_tests, eqb_tells}
-use Rattle.gh_base.specs.declared.cell.Ask.{Ask}
-use Rattle.gh_base.specs.declared.cell.Cell.TheVariants as cell
-use Rattle.gh_base.specs.Holding.{holder_in}
-use Rattle.gh_base.specs.Rows.{Row, RowsAreWritten, buffer_words, field_words, global_words, mark_words}
-use Rattle.gh_heap.specs.Moves.{update, update_at}
-use Rattle.gh_heap.specs.Rights.{IsOf}
-use Rattle.gh_marks.specs.Colours.{Black, Claimed, Colour, Cycle, Extents, IsClean, IsMarked, IsPointer, Pending, Placing, Progress, Read, Shared, Taken, White, scanned_words}
-use Rattle.gh_marks.specs.Good.{Good}
-use Rattle.gh_marks.specs.Laws.{EachMoveLeaves}
-use Rattle.gh_marks.specs.Moves.{Blacken, ClaimGlobal, EndStack, Enter, GiveBuffer, Keeps, LeavesStacks, May, Move, Others, PassGlobals, Place, PutField, PutGlobal, Quiet, ReadGlobal, Reserve, SameExtent, ScanGlobal, ScanStack, SetRegister, Shade, ShadeAgain, ShadeFlat, TakeBuffer, TakeEntry, moved}
+use Rattle.std.proofs.Common.{◌≡◌, ◌≢◌, ℕ, ◌+◌, Bool, true, arith, refl, sym, ◌∙◌, ap, inl, inr, ◌⊎◌, subst, ◌↔◌}
+use Rattle.gh_marks.proofs.Vocabulary.{Ask, Black, Blacken, buffer_words, Cell, Claimed, ClaimGlobal, Colour, Cycle, EachMoveLeaves, EndStack, Enter, eqb_tells, Extents, field_words, GiveBuffer, global_words, Good, holder_in, IsClean, IsMarked, IsOf, IsPointer, Keeps, LeavesStacks, mark_words, May, Move, moved, nat_tests, Others, PassGlobals, Pending, Place, Placing, Progress, PutField, PutGlobal, Quiet, Read, ReadGlobal, Reserve, Row, RowsAreWritten, SameExtent, ScanGlobal, scanned_words, ScanStack, SetRegister, Shade, ShadeAgain, ShadeFlat, Shared, TakeBuffer, TakeEntry, Taken, update, update_at, White}
 use Rattle.gh_marks.proofs.Bits.{marks-grow, white-colour}
 use Rattle.gh_marks.proofs.Quiet.{ReadRows, Unread, unread}
 
@@ -143,7 +132,7 @@ module _ (k : RowsAreWritten) (z : Cycle) (a c : ℕ) (s : Shared) (g : Good z s
 
     buffer-quiet : Buffer z a s (moved z c s (Quiet step))
     buffer-quiet = record {
-      held = subst (λ (r : ReadRows). (b : ℕ) → (holder_in (s.words (cell.Buffer b)) ≡ a + 1) ↔ (holder_in (r.buffer b) ≡ a + 1)) (sym u.rows_are) (λ b. same-iff);
+      held = subst (λ (r : ReadRows). (b : ℕ) → (holder_in (s.words (Cell.Buffer b)) ≡ a + 1) ↔ (holder_in (r.buffer b) ≡ a + 1)) (sym u.rows_are) (λ b. same-iff);
       count = λ b h. refl;
       passes = refl;
     }

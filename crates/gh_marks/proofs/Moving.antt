@@ -1,18 +1,7 @@
 -- Each move keeps what holds at every moment.
 use Rattle.std.proofs.Common.{◌≡◌, ◌≢◌, ℕ, ◌+◌, ◌-◌, arith, refl, sym, ◌∙◌, inl, inr, subst}
-use Rattle.std.proofs.lemmas.Bool.Decides.{nat_tests, eqb_tells}
-use Rattle.gh_base.specs.declared.cell.Cell.TheVariants as cell
-use Rattle.gh_base.specs.Cells.{seats_of}
-use Rattle.gh_base.specs.Holding.{AreCounted, BuffersAreHeld}
+use Rattle.gh_marks.proofs.Vocabulary.{alloc_words, AreCounted, Black, Blacken, Buffered, buffers_as_held, BuffersAreHeld, Cell, Colour, CursorGood, Cycle, EachStepKeepsTheInvariants, Enter, EntriesGood, entry_words, eqb_tells, GiveBuffer, global_words, Good, IsDrawn, IsPictured, IsSince, mark_of, mark_words, MarksGood, May, MayShade, Move, moved, nat_tests, ObjectsGood, PassesGood, Pending, Placing, PutField, PutGlobal, Quiet, Reserve, RowsAreWritten, seats_of, set_mark, Shade, ShadeAgain, ShadeFlat, Shared, StacksGood, TakeBuffer, TakeEntry, Taken, update, White}
 use Rattle.gh_base.specs.Holding as holding
-use Rattle.gh_base.specs.Rows.{RowsAreWritten, alloc_words, global_words, mark_words}
-use Rattle.gh_heap.specs.Moves.{update}
-use Rattle.gh_tri.specs.Steps.{EachStepKeepsTheInvariants}
-use Rattle.gh_marks.specs.Colours.{Black, Buffered, Colour, Cycle, IsSince, Pending, Placing, Shared, Taken, White, buffers_as_held, entry_words, mark_of}
-use Rattle.gh_marks.specs.Good.{CursorGood, EntriesGood, Good, MarksGood, ObjectsGood, PassesGood, StacksGood}
-use Rattle.gh_marks.specs.Moves.{Blacken, Enter, GiveBuffer, May, MayShade, Move, PutField, PutGlobal, Quiet, Reserve, Shade, ShadeAgain, ShadeFlat, TakeBuffer, TakeEntry, moved, set_mark}
-use Rattle.gh_marks.specs.Picture.{IsDrawn}
-use Rattle.gh_marks.specs.Shows.{IsPictured}
 use Rattle.gh_marks.proofs.Bits.{marked-again, marked-set, marked-still, marks-grow, white-colour}
 use Rattle.gh_marks.proofs.Drawing.Moving.{each-move-is-drawn}
 use Rattle.gh_marks.proofs.Keeps.{cursor-grows, entries-apart, objects-coloured, objects-shaded}
@@ -58,8 +47,8 @@ module _ (know : Known) (z : Cycle) (a : ℕ) (s : Shared) (g : Good z s) where
     u : Unread s (moved z a s (Quiet step)).words
     u = unread s step may
 
-  cursor-set : (o : ℕ) → CursorGood z.arena.layout.globals (s.words cell.Gcur) (global_words s.words) s.progress (mark_words (set_mark s.words o))
-  cursor-set o = cursor-grows z.arena.layout.globals (s.words cell.Gcur) (global_words s.words) s.progress (mark_words s.words) (mark_words (set_mark s.words o)) (marks-grow know.rows s.words o) g.cursor
+  cursor-set : (o : ℕ) → CursorGood z.arena.layout.globals (s.words Cell.Gcur) (global_words s.words) s.progress (mark_words (set_mark s.words o))
+  cursor-set o = cursor-grows z.arena.layout.globals (s.words Cell.Gcur) (global_words s.words) s.progress (mark_words s.words) (mark_words (set_mark s.words o)) (marks-grow know.rows s.words o) g.cursor
 
   -- a mark bit is set
   set : (o : ℕ) (c : Colour) → s.colour o ≡ White → mark_of c ≡ 1 → ((b j : ℕ) → c ≢ Buffered b j) → ObjectsGood (alloc_words s.words) (update s.colour o c) s.since s.extents →

@@ -1,16 +1,6 @@
 -- Each move keeps what holds at every moment: those of globals, of stacks and of new objects, and all together.
 use Rattle.std.proofs.Common.{◌≡◌, ℕ, zero, suc, ◌+◌, ◌<◌, ◌≤◌, Bool, true, false, eqb, arith, refl, sym, ap, ◌∙◌, inl, inr}
-use Rattle.std.proofs.lemmas.Bool.Decides.{nat_tests, eqb_tells}
-use Rattle.gh_base.specs.declared.cell.Cell.TheVariants as cell
-use Rattle.gh_base.specs.declared.pack.TheConstants.{END}
-use Rattle.gh_base.specs.Cells.{seats_of}
-use Rattle.gh_base.specs.Packing.{bit}
-use Rattle.gh_base.specs.Rows.{field_words, global_words, mark_words}
-use Rattle.gh_heap.specs.Moves.{update}
-use Rattle.gh_marks.specs.Colours.{Black, Buffered, Cycle, IsPointer, IsSince, Placing, Shared, entry_words, scanned_words}
-use Rattle.gh_marks.specs.Good.{Good, ValuesGood, seats_among}
-use Rattle.gh_marks.specs.Laws.{EachMoveKeeps}
-use Rattle.gh_marks.specs.Moves.{Blacken, ClaimGlobal, EndStack, Enter, GiveBuffer, May, Move, PassGlobals, Place, PutField, PutGlobal, Quiet, ReadGlobal, Reserve, ScanGlobal, ScanStack, SetRegister, Shade, ShadeAgain, ShadeFlat, TakeBuffer, TakeEntry, moved}
+use Rattle.gh_marks.proofs.Vocabulary.{bit, Black, Blacken, Buffered, Cell, ClaimGlobal, Cycle, EachMoveKeeps, END, EndStack, Enter, entry_words, eqb_tells, field_words, GiveBuffer, global_words, Good, IsPointer, IsSince, mark_words, May, Move, moved, nat_tests, PassGlobals, Place, Placing, PutField, PutGlobal, Quiet, ReadGlobal, Reserve, ScanGlobal, scanned_words, ScanStack, seats_among, seats_of, SetRegister, Shade, ShadeAgain, ShadeFlat, Shared, TakeBuffer, TakeEntry, update, ValuesGood}
 use Rattle.gh_marks.proofs.Bits.{alloc-other, alloc-same, marked-again}
 use Rattle.gh_marks.proofs.Keeps.{entries-apart, stacks-set, values-set}
 use Rattle.gh_marks.proofs.Moving.{Known, good-again, good-blacken, good-enter, good-flat, good-give_buffer, good-put_field, good-put_global, good-quiet, good-reserve, good-shade, good-take_buffer, good-take_entry, pictured}
@@ -184,10 +174,10 @@ module _ (know : Known) (z : Cycle) (a : ℕ) (s : Shared) (g : Good z s) where
     since : IsSince then.since (o + 1)
     since p e = let same : o ≡ p = omega (arith, e) in elim (eqb_tells o p) [ inl y ↦ rw (y.0) refl | inr n ↦ absurd (n.1 same) ]
 
-    nil : (p j : ℕ) → IsPointer then.extents p j → ((eqb o p ≡ true) × (o ≡ p)) → (q : ℕ) → s.words (cell.Field (p + j)) ≡ q + 1 → ⊥
+    nil : (p j : ℕ) → IsPointer then.extents p j → ((eqb o p ≡ true) × (o ≡ p)) → (q : ℕ) → s.words (Cell.Field (p + j)) ≡ q + 1 → ⊥
     nil p j l y q e =
-        let zero : s.words (cell.Field (o + j)) ≡ 0 = may.clear j (rw (y.0) at l.0) (rw (y.0) at l.1) in
-        let same : s.words (cell.Field (o + j)) ≡ q + 1 = rw (y.1) e in
+        let zero : s.words (Cell.Field (o + j)) ≡ 0 = may.clear j (rw (y.0) at l.0) (rw (y.0) at l.1) in
+        let same : s.words (Cell.Field (o + j)) ≡ q + 1 = rw (y.1) e in
         omega arith
 
     black-placing : {b : ℕ} → Black ≡ Placing b → ⊥
@@ -201,9 +191,9 @@ module _ (know : Known) (z : Cycle) (a : ℕ) (s : Shared) (g : Good z s) where
     values = record {
       fields = λ p j h l q e. elim (eqb_tells o p) [
         | inl y ↦ absurd (nil p j l y q e)
-        | inr n ↦ since-grows o (s.words (cell.Field (p + j))) (g.values.fields p j (rw (n.0) at h) (rw (n.0) at l)) q e
+        | inr n ↦ since-grows o (s.words (Cell.Field (p + j))) (g.values.fields p j (rw (n.0) at h) (rw (n.0) at l)) q e
       ];
-      globals = λ j. since-grows o (s.words (cell.Global j)) (g.values.globals j);
+      globals = λ j. since-grows o (s.words (Cell.Global j)) (g.values.globals j);
       stacks = λ h r. since-grows o (s.registers h r) (g.values.stacks h r);
     }
 

@@ -1,10 +1,6 @@
 -- The shared state of marking: the words, how far marking is with each object and each global, and which objects no path leads to any more.
 use Rattle.std.specs.Prelude.{◌≡◌, ℕ, ◌+◌, ◌<◌, ◌^◌, ◌⊎◌, Bool, true, false}
-use Rattle.gh_base.specs.declared.cell.Cell.TheVariants as cell
-use Rattle.gh_base.specs.Cells.{Words}
-use Rattle.gh_base.specs.Holding.{Buffers}
-use Rattle.gh_base.specs.Rows.{Row, row_bit, buffer_words, field_words, global_words, mark_words}
-use Rattle.gh_heap.specs.Rights.{Arena}
+use Rattle.gh_marks.specs.Vocabulary.{Arena, buffer_words, Buffers, Cell, field_words, global_words, mark_words, Row, row_bit, Words}
 
 -- A cycle of marking: the heap that it is in, and its number. A stack whose word is this number is black.
 pub record Cycle : Type 0 where
@@ -58,10 +54,10 @@ pub record Shared : Type 0 where
 -- The rows of the words that gh_base does not name.
 
 abbrev pub entry_words : Words → ℕ → Row
-entry_words words b j = words (cell.Entry b j)
+entry_words words b j = words (Cell.Entry b j)
 
 abbrev pub scanned_words : Words → Row
-scanned_words words g = words (cell.Scanned g)
+scanned_words words g = words (Cell.Scanned g)
 
 -- the buffers, as gh_base speaks of who holds which
 abbrev pub buffers_as_held : Words → Row → Buffers

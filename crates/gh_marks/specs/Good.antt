@@ -1,11 +1,6 @@
 -- What holds at every moment while marking is on, group by group over the rows that each reads; and that there is a picture of the state.
 use Rattle.std.specs.Prelude.{◌≡◌, ◌≢◌, ℕ, zero, suc, ◌+◌, ◌<◌, ◌≤◌, ◌⊎◌, Bool, true, false}
-use Rattle.gh_base.specs.declared.cell.Cell.TheVariants as cell
-use Rattle.gh_base.specs.declared.pack.TheConstants.{END}
-use Rattle.gh_base.specs.Cells.{seats_of}
-use Rattle.gh_base.specs.Holding.{AreCounted}
-use Rattle.gh_base.specs.Packing.{bit}
-use Rattle.gh_base.specs.Rows.{Row, row_bit, alloc_words, field_words, global_words, mark_words}
+use Rattle.gh_marks.specs.Vocabulary.{alloc_words, AreCounted, bit, Cell, END, field_words, global_words, mark_words, Row, row_bit, seats_of}
 use Rattle.gh_marks.specs.Colours.{Buffered, Colour, Cycle, Extents, IsClean, IsGrey, IsPointer, IsShaded, IsSince, Placing, Progress, Read, Shared, Untouched, buffers_as_held, entry_words, mark_of, scanned_words}
 use Rattle.gh_marks.specs.Shows.{IsPictured}
 
@@ -63,8 +58,8 @@ pub record Good (z : Cycle) (s : Shared) : Type 0 where
   pub counts : AreCounted (buffers_as_held s.words s.filled)
   pub entries : EntriesGood (entry_words s.words) s.filled s.colour
   pub values : ValuesGood s.extents (field_words s.words) (global_words s.words) s.registers s.since
-  pub cursor : CursorGood z.arena.layout.globals (s.words cell.Gcur) (global_words s.words) s.progress (mark_words s.words)
-  pub passes : PassesGood z.arena.layout.globals (seats_of z.arena.layout) (s.words cell.Gcur) s.passed
+  pub cursor : CursorGood z.arena.layout.globals (s.words Cell.Gcur) (global_words s.words) s.progress (mark_words s.words)
+  pub passes : PassesGood z.arena.layout.globals (seats_of z.arena.layout) (s.words Cell.Gcur) s.passed
   pub stacks : StacksGood z.number (scanned_words s.words) s.registers
   -- There is a picture of the state that has the invariants of gh_tri, with room for as many objects more as one likes. They say what black objects, scanned globals and scanned stacks hold.
   pub pictured : (room : ℕ) → IsPictured z s room

@@ -1,11 +1,6 @@
 -- What holds of the moves of marking.
 use Rattle.std.specs.Prelude.{◌≡◌, ◌≢◌, ℕ, ◌+◌, ◌-◌, ◌^◌, ◌<◌, Bool, true, Some, None}
-use Rattle.gh_base.specs.declared.cell.Ask.{Ask}
-use Rattle.gh_base.specs.declared.cell.Cell.TheVariants as cell
-use Rattle.gh_base.specs.declared.held.Held.{Held}
-use Rattle.gh_base.specs.Cells.{opening_words}
-use Rattle.gh_base.specs.Rows.{mark_words, row_bit}
-use Rattle.gh_heap.specs.Rights.{IsOf, WordsGood as AreWords}
+use Rattle.gh_marks.specs.Vocabulary.{AreWords, Ask, Cell, Held, IsOf, mark_words, opening_words, row_bit}
 use Rattle.gh_marks.specs.Colours.{Cycle, IsClean, IsPointer, IsSince, Shared}
 use Rattle.gh_marks.specs.Ends.{EachReachedIsMarked, IsDone, IsFoundAtTheEnd, Opens}
 use Rattle.gh_marks.specs.Good.{Good}
@@ -60,7 +55,7 @@ pub record HandsFollow (z : Cycle) (a : ℕ) (s : Shared) (h : InHand) : Type 0 
   pub put_global : (i value : ℕ) → Hands a (moved z a s (PutGlobal i value)) h
   pub claimed : (i : ℕ) → May z a s (ClaimGlobal i) → h.claim ≡ NoClaim → Hands a (moved z a s (ClaimGlobal i)) (record h { claim = ClaimOf i })
   pub passed : (i : ℕ) → Hands a (moved z a s (PassGlobals i)) h
-  pub read : (i : ℕ) → h.claim ≡ ClaimOf i → Hands a (moved z a s (ReadGlobal i)) (record h { claim = ReadOf i (s.words (cell.Global i)) })
+  pub read : (i : ℕ) → h.claim ≡ ClaimOf i → Hands a (moved z a s (ReadGlobal i)) (record h { claim = ReadOf i (s.words (Cell.Global i)) })
   pub scanned : (i value : ℕ) → h.claim ≡ ReadOf i value → Hands a (moved z a s (ScanGlobal i value)) (record h { claim = NoClaim })
   pub set : (g d value : ℕ) → Hands a (moved z a s (SetRegister g d value)) h
   pub scanned_stack : (g : ℕ) → Hands a (moved z a s (ScanStack g)) h
@@ -76,8 +71,8 @@ pub record FactsLast (z : Cycle) (a : ℕ) (s t : Shared) : Type 0 where
   pub clean : (value : ℕ) → IsClean (mark_words s.words) value → IsClean (mark_words t.words) value
   pub since : (value : ℕ) → IsSince s.since value → IsSince t.since value
   -- a word that was clean, or held this and nothing else, is so still
-  pub field : (o k : ℕ) → s.since o ≡ true → IsPointer s.extents o k → IsClean (mark_words s.words) (s.words (cell.Field (o + k))) → IsClean (mark_words t.words) (t.words (cell.Field (o + k)))
-  pub global : (i : ℕ) → IsClean (mark_words s.words) (s.words (cell.Global i)) → IsClean (mark_words t.words) (t.words (cell.Global i))
+  pub field : (o k : ℕ) → s.since o ≡ true → IsPointer s.extents o k → IsClean (mark_words s.words) (s.words (Cell.Field (o + k))) → IsClean (mark_words t.words) (t.words (Cell.Field (o + k)))
+  pub global : (i : ℕ) → IsClean (mark_words s.words) (s.words (Cell.Global i)) → IsClean (mark_words t.words) (t.words (Cell.Global i))
   pub register : (g d : ℕ) → IsOf z.arena a g → IsClean (mark_words s.words) (s.registers g d) → IsClean (mark_words t.words) (t.registers g d)
   pub pointer : (o k : ℕ) → s.since o ≡ true → IsPointer s.extents o k → IsPointer t.extents o k
   pub pointer_was : (o k : ℕ) → s.since o ≡ true → IsPointer t.extents o k → IsPointer s.extents o k
@@ -91,7 +86,7 @@ EachHandLasts = (z : Cycle) (a : ℕ) (s t : Shared) (h : InHand) → Others z a
 
 -- the cursor's word does not begin anew
 abbrev pub TheCursorIsSmall : Type 0
-TheCursorIsSmall = (z : Cycle) (s : Shared) → Good z s → s.words cell.Gcur + 1 < 2 ^ 64
+TheCursorIsSmall = (z : Cycle) (s : Shared) → Good z s → s.words Cell.Gcur + 1 < 2 ^ 64
 
 -- As marking is switched on it holds, and no seat has anything in hand.
 pub record Begins (z : Cycle) (s : Shared) : Type 0 where

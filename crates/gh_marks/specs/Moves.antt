@@ -1,19 +1,7 @@
 -- The moves by which an actor changes the shared state of marking, when it may make them, and what they leave to the others.
-use Rattle.std.specs.Prelude.{◌≡◌, ◌≢◌, ℕ, ◌+◌, ◌*◌, ◌-◌, ◌/◌, ◌%◌, ◌^◌, ◌<◌, ◌≤◌, ◌⊎◌, ◌↔◌, Bool, true, false, bit_or}
-use Rattle.std.proofs.Common.{arith}
-use Rattle.gh_base.specs.declared.cell.Ask.{Ask}
-use Rattle.gh_base.specs.declared.cell.Ask.TheVariants as ask
-use Rattle.gh_base.specs.declared.cell.Cell.{Cell}
-use Rattle.gh_base.specs.declared.cell.Cell.TheVariants as cell
-use Rattle.gh_base.specs.declared.limits.TheConstants.{REGISTERS}
-use Rattle.gh_base.specs.declared.pack.TheConstants.{END, ENTRIES}
-use Rattle.gh_base.specs.Cells.{Words, put, seats_of}
-use Rattle.gh_base.specs.Holding.{holder_in}
-use Rattle.gh_base.specs.Packing.{buffer_word}
-use Rattle.gh_base.specs.Rows.{alloc_words, mark_words, row_bit}
-use Rattle.gh_base.specs.Steps.{cell_of, effect}
+use Rattle.std.proofs.Common.{arith, ◌≡◌, ◌≢◌, ℕ, ◌+◌, ◌*◌, ◌-◌, ◌/◌, ◌%◌, ◌^◌, ◌<◌, ◌≤◌, ◌⊎◌, ◌↔◌, Bool, true, false, bit_or}
+use Rattle.gh_marks.specs.Vocabulary.{alloc_words, Ask, buffer_word, Cell, cell_of, effect, END, ENTRIES, holder_in, IsOf, mark_words, put, REGISTERS, row_bit, seats_of, Words}
 use Rattle.gh_heap.specs.Moves.{update, update_at}
-use Rattle.gh_heap.specs.Rights.{IsOf}
 use Rattle.gh_marks.specs.Colours.{Black, Buffered, Claimed, Cycle, Extents, IsClean, IsMarked, IsPointer, IsSince, Pending, Placing, Read, Scanned, Shared, Taken, White}
 
 -- A change of the shared state by a step, words and ghosts together. A step is one move or two.
@@ -50,18 +38,18 @@ pub data Move : Type 0 where
 
 -- Rows that marking does not read. A heap word may change in a step of this kind where it is no pointer field of an object of the cycle: in a slot that is being cleared, and where a field holds a number.
 abbrev pub IsAside : Shared → Cell → Type 0
-IsAside s (cell.Mark i) = ⊥
-IsAside s (cell.Alloc i) = ⊥
-IsAside s (cell.Field x) = (o k : ℕ) → s.since o ≡ true → IsPointer s.extents o k → x ≢ o + k
-IsAside s (cell.Global i) = ⊥
-IsAside s cell.Gcur = ⊥
-IsAside s (cell.Buffer b) = ⊥
-IsAside s (cell.Entry b j) = ⊥
-IsAside s (cell.Scanned g) = ⊥
+IsAside s (Cell.Mark i) = ⊥
+IsAside s (Cell.Alloc i) = ⊥
+IsAside s (Cell.Field x) = (o k : ℕ) → s.since o ≡ true → IsPointer s.extents o k → x ≢ o + k
+IsAside s (Cell.Global i) = ⊥
+IsAside s Cell.Gcur = ⊥
+IsAside s (Cell.Buffer b) = ⊥
+IsAside s (Cell.Entry b j) = ⊥
+IsAside s (Cell.Scanned g) = ⊥
 IsAside s _ = Unit {0}
 
 abbrev pub IsQuietInMarking : Shared → Ask → Type 0
-IsQuietInMarking s (ask.Load c) = Unit {0}
+IsQuietInMarking s (Ask.Load c) = Unit {0}
 IsQuietInMarking s step = IsAside s (cell_of step)
 
 -- the bit of heap word o in its word of a row
@@ -69,10 +57,10 @@ abbrev pub with_bit : (word o : ℕ) → ℕ
 with_bit word o = bit_or word (2 ^ (o % 64))
 
 abbrev pub set_mark : Words → (o : ℕ) → Words
-set_mark words o = put words (cell.Mark (o / 64)) (with_bit (words (cell.Mark (o / 64))) o)
+set_mark words o = put words (Cell.Mark (o / 64)) (with_bit (words (Cell.Mark (o / 64))) o)
 
 abbrev pub set_alloc : Words → (o : ℕ) → Words
-set_alloc words o = put words (cell.Alloc (o / 64)) (with_bit (words (cell.Alloc (o / 64))) o)
+set_alloc words o = put words (Cell.Alloc (o / 64)) (with_bit (words (Cell.Alloc (o / 64))) o)
 
 abbrev pub with_extent : Extents → (o size : ℕ) → (pointer : ℕ → Bool) → (noscan : Bool) → Extents
 with_extent e o size pointer noscan = record { size = update e.size o size; pointer = update e.pointer o pointer; noscan = update e.noscan o noscan }
@@ -82,20 +70,20 @@ moved z a s (Quiet step) = record s { words = effect s.words step }
 moved z a s (Shade o) = record s { words = set_mark s.words o; colour = update s.colour o (Pending a) }
 moved z a s (ShadeFlat o) = record s { words = set_mark s.words o; colour = update s.colour o Black }
 moved z a s (ShadeAgain o) = record s { words = set_mark s.words o }
-moved z a s (TakeBuffer b) = record s { words = put s.words (cell.Buffer b) (buffer_word (record { count = s.filled b; holder = a + 1 })) }
-moved z a s (GiveBuffer b) = record s { words = put s.words (cell.Buffer b) (s.filled b) }
-moved z a s (Enter b o) = record s { words = put s.words (cell.Entry b (s.filled b)) (o + 1); colour = update s.colour o (Buffered b (s.filled b)); filled = update s.filled b (s.filled b + 1) }
+moved z a s (TakeBuffer b) = record s { words = put s.words (Cell.Buffer b) (buffer_word (record { count = s.filled b; holder = a + 1 })) }
+moved z a s (GiveBuffer b) = record s { words = put s.words (Cell.Buffer b) (s.filled b) }
+moved z a s (Enter b o) = record s { words = put s.words (Cell.Entry b (s.filled b)) (o + 1); colour = update s.colour o (Buffered b (s.filled b)); filled = update s.filled b (s.filled b + 1) }
 moved z a s (TakeEntry b o) = record s { colour = update s.colour o (Taken a); filled = update s.filled b (s.filled b - 1) }
 moved z a s (Blacken o) = record s { colour = update s.colour o Black }
-moved z a s (PutField x value) = record s { words = put s.words (cell.Field x) value }
-moved z a s (PutGlobal i value) = record s { words = put s.words (cell.Global i) value }
-moved z a s (ClaimGlobal i) = record s { words = put s.words cell.Gcur (i + 1); progress = update s.progress i (Claimed a) }
-moved z a s (PassGlobals i) = record s { words = put s.words cell.Gcur (i + 1); passed = update s.passed a true }
-moved z a s (ReadGlobal i) = record s { progress = update s.progress i (Read a (s.words (cell.Global i))) }
+moved z a s (PutField x value) = record s { words = put s.words (Cell.Field x) value }
+moved z a s (PutGlobal i value) = record s { words = put s.words (Cell.Global i) value }
+moved z a s (ClaimGlobal i) = record s { words = put s.words Cell.Gcur (i + 1); progress = update s.progress i (Claimed a) }
+moved z a s (PassGlobals i) = record s { words = put s.words Cell.Gcur (i + 1); passed = update s.passed a true }
+moved z a s (ReadGlobal i) = record s { progress = update s.progress i (Read a (s.words (Cell.Global i))) }
 moved z a s (ScanGlobal i value) = record s { progress = update s.progress i Scanned }
 moved z a s (SetRegister g d value) = record s { registers = update_at s.registers g d value }
-moved z a s (ScanStack g) = record s { words = put s.words (cell.Scanned g) z.number }
-moved z a s (EndStack g) = record s { words = put s.words (cell.Scanned g) END; registers = update s.registers g (λ d. 0) }
+moved z a s (ScanStack g) = record s { words = put s.words (Cell.Scanned g) z.number }
+moved z a s (EndStack g) = record s { words = put s.words (Cell.Scanned g) END; registers = update s.registers g (λ d. 0) }
 moved z a s (Reserve o) = record s { words = set_mark s.words o; colour = update s.colour o (Placing a) }
 moved z a s (Place o size pointer noscan g d) = record s {
   words = set_alloc s.words o;
@@ -108,7 +96,7 @@ moved z a s (Place o size pointer noscan g d) = record s {
 -- When a seat may make the move.
 
 abbrev pub HasBuffer : (a : ℕ) → Shared → (b : ℕ) → Type 0
-HasBuffer a s b = holder_in (s.words (cell.Buffer b)) ≡ a + 1
+HasBuffer a s b = holder_in (s.words (Cell.Buffer b)) ≡ a + 1
 
 -- the object is white and one of the cycle
 pub record MayShade (s : Shared) (o : ℕ) : Type 0 where
@@ -123,7 +111,7 @@ pub record MayEnter (a : ℕ) (s : Shared) (b o : ℕ) : Type 0 where
 pub record MayTakeEntry (a : ℕ) (s : Shared) (b o : ℕ) : Type 0 where
   pub held : HasBuffer a s b
   pub some : 0 < s.filled b
-  pub entry : s.words (cell.Entry b (s.filled b - 1)) ≡ o + 1
+  pub entry : s.words (Cell.Entry b (s.filled b - 1)) ≡ o + 1
 
 -- A store behind the write barrier. The word that it overwrites was shaded before, so that it cuts no path to a white object; and so was the value, so that nothing which is scanned comes to name a white object.
 pub record BehindBarrier (s : Shared) (was value : ℕ) : Type 0 where
@@ -133,7 +121,7 @@ pub record BehindBarrier (s : Shared) (was value : ℕ) : Type 0 where
 
 -- a seat that has not done so in this cycle
 pub record MayPassGlobals (z : Cycle) (a : ℕ) (s : Shared) (i : ℕ) : Type 0 where
-  pub at : s.words cell.Gcur ≡ i
+  pub at : s.words Cell.Gcur ≡ i
   pub behind : z.arena.layout.globals ≤ i
   pub seat : a < seats_of z.arena.layout
   pub first : s.passed a ≡ false
@@ -142,20 +130,20 @@ pub record MayPassGlobals (z : Cycle) (a : ℕ) (s : Shared) (i : ℕ) : Type 0 
 pub data MayBring (z : Cycle) (s : Shared) (g : ℕ) : (value : ℕ) → Type 0 where
   from_nothing : MayBring z s g 0
   from_register : (r : ℕ) → r < REGISTERS → MayBring z s g (s.registers g r)
-  from_field : (r o k : ℕ) → r < REGISTERS → s.registers g r ≡ o + 1 → IsPointer s.extents o k → MayBring z s g (s.words (cell.Field (o + k)))
-  from_global : (i : ℕ) → i < z.arena.layout.globals → MayBring z s g (s.words (cell.Global i))
+  from_field : (r o k : ℕ) → r < REGISTERS → s.registers g r ≡ o + 1 → IsPointer s.extents o k → MayBring z s g (s.words (Cell.Field (o + k)))
+  from_global : (i : ℕ) → i < z.arena.layout.globals → MayBring z s g (s.words (Cell.Global i))
 
 -- a register of a goroutine that goes on, and what that can bring into it
 pub record MaySetRegister (z : Cycle) (a : ℕ) (s : Shared) (g value : ℕ) : Type 0 where
   pub own : IsOf z.arena a g
-  pub goes_on : s.words (cell.Scanned g) ≢ END
+  pub goes_on : s.words (Cell.Scanned g) ≢ END
   pub comes : MayBring z s g value
   pub since : IsSince s.since value
 
 -- each register was shaded, by a scan in which no statement of the goroutine ran
 pub record MayScanStack (z : Cycle) (a : ℕ) (s : Shared) (g : ℕ) : Type 0 where
   pub own : IsOf z.arena a g
-  pub goes_on : s.words (cell.Scanned g) ≢ END
+  pub goes_on : s.words (Cell.Scanned g) ≢ END
   pub clean : (d : ℕ) → d < REGISTERS → IsClean (mark_words s.words) (s.registers g d)
 
 -- a white heap word in an empty slot
@@ -166,28 +154,28 @@ pub record MayReserve (s : Shared) (o : ℕ) : Type 0 where
 -- Its slot is marked, lies in the heap, and its pointer fields are clear; and a goroutine that goes on has it in a register.
 pub record MayPlace (z : Cycle) (a : ℕ) (s : Shared) (o size : ℕ) (pointer : ℕ → Bool) (g d : ℕ) : Type 0 where
   pub own : IsOf z.arena a g
-  pub goes_on : s.words (cell.Scanned g) ≢ END
+  pub goes_on : s.words (Cell.Scanned g) ≢ END
   pub register : d < REGISTERS
   pub reserved : s.colour o ≡ Placing a
   pub within : size ≤ 1024 * z.arena.layout.pages
-  pub clear : (k : ℕ) → k < size → pointer k ≡ true → s.words (cell.Field (o + k)) ≡ 0
+  pub clear : (k : ℕ) → k < size → pointer k ≡ true → s.words (Cell.Field (o + k)) ≡ 0
 
 abbrev pub May : Cycle → (a : ℕ) → Shared → Move → Type 0
 May z a s (Quiet step) = IsQuietInMarking s step
 May z a s (Shade o) = MayShade s o × (s.extents.noscan o ≡ false)
 May z a s (ShadeFlat o) = MayShade s o × (s.extents.noscan o ≡ true)
 May z a s (ShadeAgain o) = IsMarked (mark_words s.words) o
-May z a s (TakeBuffer b) = holder_in (s.words (cell.Buffer b)) ≡ 0
+May z a s (TakeBuffer b) = holder_in (s.words (Cell.Buffer b)) ≡ 0
 May z a s (GiveBuffer b) = HasBuffer a s b
 May z a s (Enter b o) = MayEnter a s b o
 May z a s (TakeEntry b o) = MayTakeEntry a s b o
-May z a s (Blacken o) = (s.colour o ≡ Taken a) × ((k : ℕ) → IsPointer s.extents o k → IsClean (mark_words s.words) (s.words (cell.Field (o + k))))
-May z a s (PutField x value) = BehindBarrier s (s.words (cell.Field x)) value
-May z a s (PutGlobal i value) = BehindBarrier s (s.words (cell.Global i)) value
-May z a s (ClaimGlobal i) = (s.words cell.Gcur ≡ i) × (i < z.arena.layout.globals)
+May z a s (Blacken o) = (s.colour o ≡ Taken a) × ((k : ℕ) → IsPointer s.extents o k → IsClean (mark_words s.words) (s.words (Cell.Field (o + k))))
+May z a s (PutField x value) = BehindBarrier s (s.words (Cell.Field x)) value
+May z a s (PutGlobal i value) = BehindBarrier s (s.words (Cell.Global i)) value
+May z a s (ClaimGlobal i) = (s.words Cell.Gcur ≡ i) × (i < z.arena.layout.globals)
 May z a s (PassGlobals i) = MayPassGlobals z a s i
 May z a s (ReadGlobal i) = s.progress i ≡ Claimed a
-May z a s (ScanGlobal i value) = (s.progress i ≡ Read a value) × IsClean (mark_words s.words) (s.words (cell.Global i))
+May z a s (ScanGlobal i value) = (s.progress i ≡ Read a value) × IsClean (mark_words s.words) (s.words (Cell.Global i))
 May z a s (SetRegister g d value) = MaySetRegister z a s g value
 May z a s (ScanStack g) = MayScanStack z a s g
 May z a s (EndStack g) = IsOf z.arena a g
@@ -207,10 +195,10 @@ pub record Keeps (z : Cycle) (a : ℕ) (s t : Shared) : Type 0 where
   pub marks : (o : ℕ) → IsMarked (mark_words s.words) o → IsMarked (mark_words t.words) o
   pub since : (o : ℕ) → s.since o ≡ true → t.since o ≡ true
   pub extents : (o : ℕ) → s.since o ≡ true → SameExtent s.extents t.extents o
-  pub fields : (o k : ℕ) → s.since o ≡ true → IsPointer s.extents o k → (t.words (cell.Field (o + k)) ≡ s.words (cell.Field (o + k))) ⊎ IsClean (mark_words t.words) (t.words (cell.Field (o + k)))
-  pub globals : (i : ℕ) → (t.words (cell.Global i) ≡ s.words (cell.Global i)) ⊎ IsClean (mark_words t.words) (t.words (cell.Global i))
+  pub fields : (o k : ℕ) → s.since o ≡ true → IsPointer s.extents o k → (t.words (Cell.Field (o + k)) ≡ s.words (Cell.Field (o + k))) ⊎ IsClean (mark_words t.words) (t.words (Cell.Field (o + k)))
+  pub globals : (i : ℕ) → (t.words (Cell.Global i) ≡ s.words (Cell.Global i)) ⊎ IsClean (mark_words t.words) (t.words (Cell.Global i))
   pub registers : (g d : ℕ) → IsOf z.arena a g → t.registers g d ≡ s.registers g d
-  pub stacks : (g : ℕ) → IsOf z.arena a g → t.words (cell.Scanned g) ≡ s.words (cell.Scanned g)
+  pub stacks : (g : ℕ) → IsOf z.arena a g → t.words (Cell.Scanned g) ≡ s.words (Cell.Scanned g)
 
 -- What the moves of all others leave to a seat: that, and what it has in hand.
 pub record Others (z : Cycle) (a : ℕ) (s t : Shared) : Type 0 where

@@ -1,8 +1,6 @@
 -- What a seat has in hand. Each thing is tied to the shared state both ways, so that nothing has to be counted: what no seat says that it has, nobody has.
 use Rattle.std.specs.Prelude.{◌≡◌, ℕ, ◌<◌, ◌↔◌, Option, Some, None}
-use Rattle.gh_base.specs.declared.held.Held.{Held}
-use Rattle.gh_base.specs.Holding.{HoldsBuffer}
-use Rattle.gh_base.specs.Rows.{Row}
+use Rattle.gh_marks.specs.Vocabulary.{Held, HoldsBuffer, Row}
 use Rattle.gh_marks.specs.Colours.{Claimed, Colour, IsClean, Pending, Placing, Progress, Read, Shared, Taken, buffers_as_held}
 
 -- a global that the seat has claimed, or whose value it has read

@@ -1,13 +1,8 @@
 -- The picture of marking: a state of marking as gh_tri's argument for the write barrier sees it. Objects of the cycle with their colours and pointer fields, globals and stacks; no words, no buffers, no cursor, and no seats.
 use Rattle.std.specs.Prelude.{◌≡◌, ℕ, ◌+◌, ◌*◌, ◌<◌, ◌≤◌, Bool, true, false, ◌==◌, ◌&&◌, ◌||◌, not, if◌then◌else◌, nat_lt, Option, Some, None}
-use Rattle.gh_base.specs.declared.cell.Cell.TheVariants as cell
-use Rattle.gh_base.specs.declared.limits.TheConstants.{REGISTERS}
-use Rattle.gh_base.specs.declared.pack.TheConstants.{END}
-use Rattle.gh_base.specs.Rows.{Row}
+use Rattle.gh_marks.specs.Vocabulary.{Cell, END, Invariants, REGISTERS, Row, Tricolour}
 use Rattle.gh_tri.specs.declared.Colour.{Colour as Shade}
 use Rattle.gh_tri.specs.declared.Colour.TheVariants as shade
-use Rattle.gh_tri.specs.Invariants.{Invariants}
-use Rattle.gh_tri.specs.Tricolour.{Tricolour}
 use Rattle.gh_marks.specs.Colours.{Black, Buffered, Claimed, Colour, Cycle, Pending, Placing, Progress, Read, Scanned, Shared, Taken, Untouched, White}
 
 -- Grey is what is marked and has still to be scanned, wherever it is. A slot that is marked before its object is made is no object yet, and its object will be black.
@@ -31,11 +26,11 @@ is_black_stack z word = (word == z.number) || (word == END)
 
 -- field k of the object at heap word o, where it is a pointer field
 abbrev pub pointer_at : Shared → (o k : ℕ) → ℕ
-pointer_at s o k = if nat_lt k (s.extents.size o) && (s.extents.pointer o k && not (s.extents.noscan o)) then s.words (cell.Field (o + k)) else 0
+pointer_at s o k = if nat_lt k (s.extents.size o) && (s.extents.pointer o k && not (s.extents.noscan o)) then s.words (Cell.Field (o + k)) else 0
 
 -- global i, where there is one
 abbrev pub global_at : Cycle → Shared → (i : ℕ) → ℕ
-global_at z s i = if nat_lt i z.arena.layout.globals then s.words (cell.Global i) else 0
+global_at z s i = if nat_lt i z.arena.layout.globals then s.words (Cell.Global i) else 0
 
 -- Objects have numbers in the picture: 0 is the globals, and each of the cycle has one from 1 on, those first that there were when it began, and then each as it is made. `at` says at which heap word the object of a number begins.
 pub record Numbers (since : ℕ → Bool) (at : Row) (objects : ℕ) : Type 0 where
@@ -64,7 +59,7 @@ pub record Shows (z : Cycle) (s : Shared) (at : Row) (p : Tricolour) : Type 0 wh
   pub globals : (i : ℕ) → Names at p.objects (p.value 0 i) (global_at z s i)
   pub fields : (n k : ℕ) → 0 < n → n < p.objects → Names at p.objects (p.value n k) (pointer_at s (at n) k)
   pub registers : (g d : ℕ) → g < z.arena.layout.goroutines → d < REGISTERS → Names at p.objects (p.register g d) (s.registers g d)
-  pub seen : (g d : ℕ) → g < z.arena.layout.goroutines → d < REGISTERS → p.seen g d ≡ is_black_stack z (s.words (cell.Scanned g))
+  pub seen : (g d : ℕ) → g < z.arena.layout.goroutines → d < REGISTERS → p.seen g d ≡ is_black_stack z (s.words (Cell.Scanned g))
   pub reads : (g n k : ℕ) → p.read g n k ≡ None
 
 -- There is a picture of the state that has gh_tri's invariants, with room for so many objects more.

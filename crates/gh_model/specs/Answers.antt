@@ -1,15 +1,11 @@
 -- The answers to operations one after the other.
 use Rattle.std.specs.Prelude.{◌≡◌, List, [], ◌∷◌, ◌⊎◌}
-use Rattle.gh_base.specs.declared.value.Answer.{Answer}
-use Rattle.gh_base.specs.declared.value.Answer.TheVariants as answers
-use Rattle.gh_base.specs.declared.operation.Op.{Op}
-use Rattle.gh_base.specs.declared.operation.Op.TheVariants as ops
-use Rattle.gh_base.specs.declared.shape.Shape.{Shape}
+use Rattle.gh_model.specs.Vocabulary.{Answer, Op, Shape}
 use Rattle.gh_model.specs.Ever.{Ever, answer_of, ever_after}
 
 -- the operation may be answered so: as the heap that never frees answers it, save that there may be no room for a new object
 abbrev pub Answers : List Shape → Ever → Op → Answer → Type 0
-Answers shapes e (ops.New g d t) a = (a ≡ answer_of shapes e (ops.New g d t)) ⊎ (a ≡ answers.Full)
+Answers shapes e (Op.New g d t) a = (a ≡ answer_of shapes e (Op.New g d t)) ⊎ (a ≡ Answer.Full)
 Answers shapes e op a = a ≡ answer_of shapes e op
 
 -- these are answers to the operations, one after the other, from here on

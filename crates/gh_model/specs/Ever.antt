@@ -1,16 +1,12 @@
 -- The heap that never frees: what statements answer and what they change, by names and paths.
 use Rattle.std.specs.Prelude.{◌≡◌, ℕ, ◌+◌, nat_lt, Bool, true, false, ◌==◌, ◌&&◌, if◌then◌else◌, List}
+use Rattle.gh_model.specs.Vocabulary.{Answer, Op, Shape}
 use Rattle.gh_base.specs.declared.value.Name.{Name}
 use Rattle.gh_base.specs.declared.value.Fault.TheVariants.{NilBase, Field, Kind}
-use Rattle.gh_base.specs.declared.value.Answer.{Answer}
-use Rattle.gh_base.specs.declared.value.Answer.TheVariants as answers
-use Rattle.gh_base.specs.declared.operation.Op.{Op}
 use Rattle.gh_base.specs.declared.operation.Op.TheVariants.{New, Load, Store, GetGlobal, SetGlobal, Int, Move, Nil, Gc, Poll, End, Leave}
-use Rattle.gh_base.specs.declared.shape.Shape.{Shape}
 use Rattle.gh_base.specs.Shapes.{shape_at, is_pointer}
 use Rattle.gh_class.specs.Classes.{slot_words}
 use Rattle.gh_model.specs.declared.EverValue.{EverValue}
-use Rattle.gh_model.specs.declared.EverValue.TheVariants as values
 
 -- No object is ever removed.
 pub record Ever : Type 0 where
@@ -26,9 +22,9 @@ abbrev pub opening_ever : Ever
 opening_ever = record {
   made = λ g. 0;
   type_of = λ n. 0;
-  field = λ n k. values.Nil;
-  global = λ k. values.Nil;
-  register = λ g d. values.Nil;
+  field = λ n k. EverValue.Nil;
+  global = λ k. EverValue.Nil;
+  register = λ g d. EverValue.Nil;
   ended = λ g. false;
 }
 
@@ -57,19 +53,19 @@ module _ (shapes : List Shape) where
 
 -- a pointer field takes nil or a reference, a number field a number
 abbrev pub fits : Bool → EverValue → Bool
-fits pointer values.Nil = pointer
-fits true (values.Int n) = false
-fits false (values.Int n) = true
-fits pointer (values.Ref n) = pointer
+fits pointer EverValue.Nil = pointer
+fits true (EverValue.Int n) = false
+fits false (EverValue.Int n) = true
+fits pointer (EverValue.Ref n) = pointer
 
 abbrev pub is_number : EverValue → Bool
-is_number (values.Int n) = true
+is_number (EverValue.Int n) = true
 is_number _ = false
 
 -- a field before anything is stored there
 abbrev pub first_value : Bool → EverValue
-first_value true = values.Nil
-first_value false = values.Int 0
+first_value true = EverValue.Nil
+first_value false = EverValue.Int 0
 
 -- Changes at one place.
 
@@ -96,55 +92,55 @@ with_end e g = record e { ended = λ h. if h == g then true else e.ended h }
 -- What a statement answers. The faults are looked for in the order nil base, field, kind.
 
 abbrev pub answer_of_value : EverValue → Answer
-answer_of_value values.Nil = answers.Nil
-answer_of_value (values.Int n) = answers.Int n
-answer_of_value (values.Ref n) = answers.Ref n
+answer_of_value EverValue.Nil = Answer.Nil
+answer_of_value (EverValue.Int n) = Answer.Int n
+answer_of_value (EverValue.Ref n) = Answer.Ref n
 
 -- a load of field k through the value
 abbrev pub load_answer : List Shape → Ever → EverValue → ℕ → Answer
-load_answer shapes e (values.Ref n) k = if has_field shapes e n k then answer_of_value (e.field n k) else answers.Fault Field
-load_answer shapes e _ k = answers.Fault NilBase
+load_answer shapes e (EverValue.Ref n) k = if has_field shapes e n k then answer_of_value (e.field n k) else Answer.Fault Field
+load_answer shapes e _ k = Answer.Fault NilBase
 
 -- a store of v in field k through the value
 abbrev pub store_answer : List Shape → Ever → EverValue → ℕ → EverValue → Answer
-store_answer shapes e (values.Ref n) k v = if has_field shapes e n k then (if fits (is_pointer_field shapes e n k) v then answers.Done else answers.Fault Kind) else answers.Fault Field
-store_answer shapes e _ k v = answers.Fault NilBase
+store_answer shapes e (EverValue.Ref n) k v = if has_field shapes e n k then (if fits (is_pointer_field shapes e n k) v then Answer.Done else Answer.Fault Kind) else Answer.Fault Field
+store_answer shapes e _ k v = Answer.Fault NilBase
 
 abbrev pub answer_of : List Shape → Ever → Op → Answer
-answer_of shapes e (New g d t) = answers.Ref (next_name e g)
+answer_of shapes e (New g d t) = Answer.Ref (next_name e g)
 answer_of shapes e (Load g d b k) = load_answer shapes e (e.register g b) k
 answer_of shapes e (Store g b k v) = store_answer shapes e (e.register g b) k (e.register g v)
 answer_of shapes e (GetGlobal g d k) = answer_of_value (e.global k)
-answer_of shapes e (SetGlobal g k v) = if is_number (e.register g v) then answers.Fault Kind else answers.Done
-answer_of shapes e (Int g d n) = answers.Done
-answer_of shapes e (Move g d s) = answers.Done
-answer_of shapes e (Nil g d) = answers.Done
-answer_of shapes e (Gc g) = answers.Swept
-answer_of shapes e Poll = answers.Done
-answer_of shapes e (End g) = answers.Done
-answer_of shapes e Leave = answers.Done
+answer_of shapes e (SetGlobal g k v) = if is_number (e.register g v) then Answer.Fault Kind else Answer.Done
+answer_of shapes e (Int g d n) = Answer.Done
+answer_of shapes e (Move g d s) = Answer.Done
+answer_of shapes e (Nil g d) = Answer.Done
+answer_of shapes e (Gc g) = Answer.Swept
+answer_of shapes e Poll = Answer.Done
+answer_of shapes e (End g) = Answer.Done
+answer_of shapes e Leave = Answer.Done
 
 -- What a statement changes, by what it was answered: a fault changes nothing, and after `full` the register holds nil.
 
 -- register d takes what was answered
 abbrev pub takes_answer : Ever → ℕ → ℕ → Answer → Ever
-takes_answer e g d answers.Nil = with_register e g d values.Nil
-takes_answer e g d (answers.Int n) = with_register e g d (values.Int n)
-takes_answer e g d (answers.Ref n) = with_register e g d (values.Ref n)
+takes_answer e g d Answer.Nil = with_register e g d EverValue.Nil
+takes_answer e g d (Answer.Int n) = with_register e g d (EverValue.Int n)
+takes_answer e g d (Answer.Ref n) = with_register e g d (EverValue.Ref n)
 takes_answer e g d _ = e
 
 -- field k of the object that the value names takes v
 abbrev pub stores_value : Ever → EverValue → ℕ → EverValue → Answer → Ever
-stores_value e (values.Ref n) k v answers.Done = with_field e n k v
+stores_value e (EverValue.Ref n) k v Answer.Done = with_field e n k v
 stores_value e _ k v _ = e
 
 abbrev pub sets_global : Ever → ℕ → EverValue → Answer → Ever
-sets_global e k v answers.Done = with_global e k v
+sets_global e k v Answer.Done = with_global e k v
 sets_global e k v _ = e
 
 abbrev pub makes_object : List Shape → Ever → ℕ → ℕ → ℕ → Answer → Ever
-makes_object shapes e g d t answers.Full = with_register e g d values.Nil
-makes_object shapes e g d t _ = with_register (with_object shapes e g t) g d (values.Ref (next_name e g))
+makes_object shapes e g d t Answer.Full = with_register e g d EverValue.Nil
+makes_object shapes e g d t _ = with_register (with_object shapes e g t) g d (EverValue.Ref (next_name e g))
 
 abbrev pub ever_after : List Shape → Ever → Op → Answer → Ever
 ever_after shapes e (New g d t) a = makes_object shapes e g d t a
@@ -152,9 +148,9 @@ ever_after shapes e (Load g d b k) a = takes_answer e g d a
 ever_after shapes e (Store g b k v) a = stores_value e (e.register g b) k (e.register g v) a
 ever_after shapes e (GetGlobal g d k) a = takes_answer e g d a
 ever_after shapes e (SetGlobal g k v) a = sets_global e k (e.register g v) a
-ever_after shapes e (Int g d n) a = with_register e g d (values.Int n)
+ever_after shapes e (Int g d n) a = with_register e g d (EverValue.Int n)
 ever_after shapes e (Move g d s) a = with_register e g d (e.register g s)
-ever_after shapes e (Nil g d) a = with_register e g d values.Nil
+ever_after shapes e (Nil g d) a = with_register e g d EverValue.Nil
 ever_after shapes e (Gc g) a = e
 ever_after shapes e Poll a = e
 ever_after shapes e (End g) a = with_end e g
@@ -162,6 +158,6 @@ ever_after shapes e Leave a = e
 
 -- A finite path of pointer fields leads to the object from a global, or from a register of a goroutine that has not ended.
 pub data Reach (e : Ever) : Name → Type 0 where
-  from_global : (k : ℕ) (n : Name) → e.global k ≡ values.Ref n → Reach e n
-  from_register : (g d : ℕ) (n : Name) → e.ended g ≡ false → e.register g d ≡ values.Ref n → Reach e n
-  from_field : (m : Name) (k : ℕ) (n : Name) → Reach e m → e.field m k ≡ values.Ref n → Reach e n
+  from_global : (k : ℕ) (n : Name) → e.global k ≡ EverValue.Ref n → Reach e n
+  from_register : (g d : ℕ) (n : Name) → e.ended g ≡ false → e.register g d ≡ EverValue.Ref n → Reach e n
+  from_field : (m : Name) (k : ℕ) (n : Name) → Reach e m → e.field m k ≡ EverValue.Ref n → Reach e n

@@ -1,2 +1,3 @@
 pub mod Ever
 pub mod Answers
+pub mod Vocabulary

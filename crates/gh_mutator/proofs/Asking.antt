@@ -1,19 +1,15 @@
 -- The making of an object asks for a cycle where it loads a trigger that is reached.
 use Rattle.std.proofs.Common.{◌≡◌, ℕ, Bool, true, List, Option, Some, arith}
-use Rattle.gh_alloc.specs.declared.place.PlaceStage.TheVariants as making
+use Rattle.gh_mutator.proofs.Vocabulary.{after_assist, after_gc, after_leave, after_poll, Assisting, follows, Found, Layout, Leaving, Name, NewStage, Place, PlaceStage, Placing, Polling, Processor, Seeking, Shape, takes_at, Task, Then, Waiting, Want, Wanted}
 use Rattle.gh_alloc.specs.Place as place
 use Rattle.gh_alloc.specs.Trigger.{AnObjectAsksAtTheTrigger}
-use Rattle.gh_mutator.specs.declared.task.Task.TheVariants as task
 use Rattle.gh_mutator.specs.New as new
-use Rattle.gh_mutator.specs.Vocabulary.{Polling}
 use Rattle.gh_mutator.specs.Asking.{Compares, CountsUpTo, SawReached, SeesReached, SeesReachedAt, ProcessorsAskAtTheTrigger}
-use Rattle.gh_mutator.proofs.Vocabulary.{after_assist, Assisting, Name, after_gc, after_leave, after_poll, follows, Found, Leaving, NewStage, Place, PlaceStage, Placing, Processor, Seeking, Shape, takes_at, Task, Then, Waiting, Want, Wanted}
-use Rattle.gh_base.specs.declared.layout.Layout.{Layout}
 
 -- The making of an object: behind the counting it looks at the trigger, and behind that it may ask for a cycle.
 
 abbrev LooksAt : PlaceStage → Type 0
-LooksAt (making.LoadTrigger bytes) = Unit {0}
+LooksAt (PlaceStage.LoadTrigger bytes) = Unit {0}
 LooksAt _ = ⊥
 
 abbrev IsBehindAt : NewStage → Type 0
@@ -22,7 +18,7 @@ IsBehindAt (Want n) = Unit {0}
 IsBehindAt _ = ⊥
 
 abbrev IsBehind : Task → Type 0
-IsBehind (task.New x) = IsBehindAt x.stage
+IsBehind (Task.New x) = IsBehindAt x.stage
 IsBehind _ = ⊥
 
 abbrev IsPlacingAt : NewStage → Type 0
@@ -30,7 +26,7 @@ IsPlacingAt (Place p) = Unit {0}
 IsPlacingAt _ = ⊥
 
 abbrev IsPlacing : Task → Type 0
-IsPlacing (task.New x) = IsPlacingAt x.stage
+IsPlacing (Task.New x) = IsPlacingAt x.stage
 IsPlacing _ = ⊥
 
 saw_behind : (t : Task) → SawReached t → IsBehind t

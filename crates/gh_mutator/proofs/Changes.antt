@@ -1,21 +1,12 @@
 -- Changes of the processor's state keep what it knows of it.
 use Rattle.std.proofs.Common.{◌≡◌, ℕ, List, [], get_or, refl, Option, Some, None}
-use Rattle.std.proofs.Math.ListN.{set}
-use Rattle.gh_mutator.specs.Vocabulary.{Shape, Value, Polling, Processor, Step, Then, GoesOn, Ends, Task, Idle}
-use Rattle.gh_base.specs.declared.value.Value.TheVariants as value
-use Rattle.gh_mutator.specs.Listing.{applied, follows}
-use Rattle.gh_poll.specs.Local.{register_in_stacks, stacks_with}
-use Rattle.gh_mutator.specs.Processor.{at_poll, at_task, taking}
-use Rattle.gh_poll.specs.Registers.{IsNear}
-use Rattle.gh_mutator.specs.Sound.{Sound, SoundTask}
-use Rattle.gh_base.specs.Reading.{read_after_set}
+use Rattle.gh_mutator.proofs.Vocabulary.{applied, at_poll, at_task, Ends, follows, GoesOn, Idle, IsNear, Layout, Polling, Processor, read_after_set, register_in_stacks, set, Shape, Sound, SoundTask, stacks_with, Step, taking, Task, Then, Value}
 use Rattle.gh_mutator.proofs.Steps.{GoesTo, SetsNear, StepSound}
-use Rattle.gh_base.specs.declared.layout.Layout.{Layout}
 
 -- what holds of a value that a register takes, and of what all registers held before
-pub registers_after : (P : Value → Type 0) (stacks : List (List Value)) (g d i j : ℕ) (v : Value) → P v → P value.Nil → P (register_in_stacks stacks i j) → ((e : ℕ) → P (register_in_stacks stacks g e)) → P (register_in_stacks (stacks_with stacks g d v) i j)
+pub registers_after : (P : Value → Type 0) (stacks : List (List Value)) (g d i j : ℕ) (v : Value) → P v → P Value.Nil → P (register_in_stacks stacks i j) → ((e : ℕ) → P (register_in_stacks stacks g e)) → P (register_in_stacks (stacks_with stacks g d v) i j)
 registers_after P stacks g d i j v new nil old own =
-    read_after_set (λ (stack : List Value). P (get_or stack j value.Nil)) stacks g i (set (get_or stacks g []) d v) [] (λ e. read_after_set P (get_or stacks g []) d j v value.Nil (λ f. new) (own j)) old
+    read_after_set (λ (stack : List Value). P (get_or stack j Value.Nil)) stacks g i (set (get_or stacks g []) d v) [] (λ e. read_after_set P (get_or stacks g []) d j v Value.Nil (λ f. new) (own j)) old
 
 -- it knows the same of the phase, and holds the same buffer
 pub record SameBuffer (p q : Polling) : Type 0 where

@@ -1,17 +1,8 @@
 -- Facts of all size classes, and of what an object of a type wants.
 use Rattle.std.proofs.Common.{◌≡◌, ℕ, ◌*◌, ◌/◌, ◌%◌, ◌^◌, ◌<◌, ◌≤◌, List, length, arith}
-use Rattle.gh_alloc.specs.FindSound.{IsSought}
-use Rattle.gh_alloc.specs.Within.{words_sought}
-use Rattle.gh_alloc.specs.declared.sought.Sought.{Sought}
-use Rattle.std.proofs.lemmas.Bool.Decides.{nat_tests}
-use Rattle.gh_base.specs.declared.shape.Shape.{Shape}
-use Rattle.gh_base.specs.Shapes.{ShapesFit}
-use Rattle.gh_class.specs.Classes.{slot_of, pages_of, slots_of, IsClassOf, class_number, large_pages, slot_words}
+use Rattle.gh_mutator.proofs.Vocabulary.{class_number, IsClassOf, IsRegister, IsSought, large_pages, nat_tests, pages_of, Shape, ShapesFit, slot_of, slot_words, slots_of, Sought, SoundWanted, wanted_of, words_sought}
 use Rattle.gh_class.specs.declared.class.TheConstants.{MOST_TYPE_WORDS}
-use Rattle.gh_mutator.specs.New.{wanted_of}
 use Rattle.gh_mutator.specs.Wanting.{WhatIsWantedFits}
-use Rattle.gh_poll.specs.Registers.{IsRegister}
-use Rattle.gh_mutator.specs.Sound.{SoundWanted}
 
 -- the laws of the size classes that are wanted here
 pub record ClassLaws : Type 0 where
@@ -28,15 +19,6 @@ pub record ClassLaws : Type 0 where
   pub large_slot : (words : ℕ) → 32768 < 8 * words → slot_words words ≡ 1024 * large_pages words
   pub holds : (words : ℕ) → words ≤ slot_words words
   pub bounded : (words : ℕ) → words ≤ MOST_TYPE_WORDS → slot_words words ≤ MOST_TYPE_WORDS
-
--- what is known of a class
-pub record FactsOf (c : ℕ) : Type 0 where
-  pub slot : 1 ≤ slot_of c / 8
-  pub some : 1 ≤ pages_of c
-  pub few : pages_of c ≤ 4
-  pub slots : 1 ≤ slots_of c
-  pub within : slots_of c * (slot_of c / 8) ≤ 1024 * pages_of c
-  pub fits : slot_of c / 8 ≤ 1024 * pages_of c
 
 pub wanted_sound : ClassLaws → (shapes : List Shape) (g d t : ℕ) → ShapesFit shapes → t < length shapes → IsRegister g d → SoundWanted shapes (wanted_of shapes g d t)
 wanted_sound laws shapes g d t fit there register = grind arith

@@ -1,26 +1,18 @@
 -- Each operation of the processor acts once before it ends, and only those with a point change the heap that never frees.
 use Rattle.std.proofs.Common.{◌≡◌, ℕ, Bool, true, false, cond, is_some, List, refl, ap, ◌∙◌, Option, Some, None, arith}
-use Rattle.gh_mutator.specs.Vocabulary.{Polling}
-use Rattle.gh_base.specs.declared.operation.Op.TheVariants as op
+use Rattle.gh_mutator.proofs.Vocabulary.{Act, acted, acting, acts, acts_at, after_assist, after_gc, after_leave, after_place, after_poll, after_search, after_wait, Assist, Assisting, begins, begins_at, cache_span, deeds, follows, Found, Global, GlobalStage, has_left_at, is_busy_at, Layout, Leaving, Load, LoadStage, Local, meaning, Name, new_op, NewStage, OnlyPointsChange, Op, op_at, Place, PlaceStage, Placing, point_of, pointed, Polling, Processor, processor_kind, ProcessorsDeedsFit, refuses_behind_wait, register_of, Search, searches, Seeking, Shape, Step, Store, StoreStage, takes, takes_at, Task, unacted, Value, Wait, Waiting, Want, Wanted}
 use Rattle.gh_base.specs.Orders.{before_step, left_at, model_after}
 use Rattle.gh_alloc.specs.Place as place
 use Rattle.gh_alloc.specs.Search as search
 use Rattle.gh_assist.specs.Listing as assist
 use Rattle.gh_model.specs.Ever.{Ever}
-use Rattle.gh_mutator.specs.declared.load.Load.{Load}
-use Rattle.gh_mutator.specs.declared.store.Store.{Store}
-use Rattle.gh_mutator.specs.declared.task.Task.TheVariants as task
 use Rattle.gh_mutator.specs.Acting.{ActsOnce, EachOperationActsOnce}
-use Rattle.gh_mutator.specs.Deeds.{OnlyPointsChange, ProcessorsDeedsFit, acted, deeds, meaning, point_of, pointed}
 use Rattle.gh_mutator.specs.Global as global
 use Rattle.gh_poll.specs.Leave as leave
-use Rattle.gh_mutator.specs.Listing.{Act, acting, acts, acts_at, begins_at, op_at}
 use Rattle.gh_mutator.specs.Load as load
-use Rattle.gh_mutator.specs.New.{op_of as new_op, refuses_behind_wait, searches, unacted}
 use Rattle.gh_poll.specs.Poll as poll
 use Rattle.gh_mutator.specs.Store as store
 use Rattle.gh_poll.specs.Wait as wait
-use Rattle.gh_mutator.proofs.Vocabulary.{after_assist, Assist, Assisting, Local, after_gc, after_leave, after_place, after_poll, after_search, after_wait, begins, cache_span, follows, Found, Global, GlobalStage, has_left_at, is_busy_at, Layout, Leaving, LoadStage, Name, NewStage, Op, Place, PlaceStage, Placing, Processor, processor_kind, register_of, Search, Seeking, Shape, Step, StoreStage, takes, takes_at, Task, Value, Wait, Waiting, Wanted, Want}
 
 -- ---- a step of a statement acts once
 
@@ -29,18 +21,18 @@ abbrev StepActs : {S : Type 0} → (S → Task) → (before : Option Op) → Op 
 StepActs into before o step = ActsOnce before (op_at (follows into step.then)) (acting step.acts o false)
 
 abbrev LoadActs : Load → LoadStage → Step Load → Type 0
-LoadActs x s step = StepActs task.Load (load.unacted x s) (load.op_of x) step
+LoadActs x s step = StepActs Task.Load (load.unacted x s) (load.op_of x) step
 
 load_acts : (l : Layout) (x : Load) (s : LoadStage) (found : ℕ) → LoadActs x s (load.step_at l x s found)
 load_acts l x s found = grind arith
 
 abbrev StoreActs : Store → Step Store → Type 0
-StoreActs x step = StepActs task.Store (Some (store.op_of x)) (store.op_of x) step
+StoreActs x step = StepActs Task.Store (Some (store.op_of x)) (store.op_of x) step
 
 store_acts : (l : Layout) (own : Local) (held : Value) (x : Store) (s : StoreStage) (found : ℕ) → StoreActs x (store.step_at l own held x s found)
 store_acts l own held x s found = grind arith
 
-global_acts : (l : Layout) (held : Value) (x : Global) (s : GlobalStage) (found : ℕ) → StepActs task.Global (global.unacted x s) (global.op_in x s) (global.step_at l held x s found)
+global_acts : (l : Layout) (held : Value) (x : Global) (s : GlobalStage) (found : ℕ) → StepActs Task.Global (global.unacted x s) (global.op_in x s) (global.step_at l held x s found)
 global_acts l held x s found = grind arith
 
 -- ---- each step acts once
@@ -68,7 +60,7 @@ module _ (l : Layout) (shapes : List Shape) (m : Processor) where
   assist_acts : (w : Wanted) (n : Name) (x : Assisting) (out : Option (Unit {0})) → op_at (after_assist m w n x out).task ≡ None
   assist_acts w n x out = grind arith
 
-  new_acts : (w : Wanted) (s : NewStage) (found : ℕ) → ActsAt (task.New (record { wanted = w; stage = s })) found
+  new_acts : (w : Wanted) (s : NewStage) (found : ℕ) → ActsAt (Task.New (record { wanted = w; stage = s })) found
   new_acts w (Search waited s) found = search_acts w waited s found
   new_acts w (Wait x) found = wait_acts w (wait.goes l (wait.waiting x m.poll) found) (wait.gives l (wait.waiting x m.poll) found)
   new_acts w (Place p) found = place_acts w p found p.stage
@@ -76,27 +68,27 @@ module _ (l : Layout) (shapes : List Shape) (m : Processor) where
   new_acts w (Assist n x) found = assist_acts w n (assist.goes l x found) (assist.gives l x found)
 
   -- what ends acts
-  gc_acts : (g : ℕ) (x : Waiting) (out : Option (Unit {0})) → ActsOnce (Some (op.Gc g)) (op_at (after_gc m g x out).task) (acting (is_some out) (op.Gc g) false)
+  gc_acts : (g : ℕ) (x : Waiting) (out : Option (Unit {0})) → ActsOnce (Some (Op.Gc g)) (op_at (after_gc m g x out).task) (acting (is_some out) (Op.Gc g) false)
   gc_acts g x out = grind arith
 
-  poll_acts : (p : Polling) (out : Option (Unit {0})) → ActsOnce (Some op.Poll) (op_at (after_poll m p out).task) (acting (is_some out) op.Poll false)
+  poll_acts : (p : Polling) (out : Option (Unit {0})) → ActsOnce (Some Op.Poll) (op_at (after_poll m p out).task) (acting (is_some out) Op.Poll false)
   poll_acts p out = grind arith
 
-  leave_acts : (x : Leaving) (out : Option (Unit {0})) → ActsOnce (Some op.Leave) (op_at (after_leave m x out).task) (acting (is_some out) op.Leave false)
+  leave_acts : (x : Leaving) (out : Option (Unit {0})) → ActsOnce (Some Op.Leave) (op_at (after_leave m x out).task) (acting (is_some out) Op.Leave false)
   leave_acts x out = grind arith
 
   acts_once_at : (t : Task) (found : ℕ) → is_busy_at t ≡ true → ActsAt t found
-  acts_once_at task.Idle found busy = absurd (cc)
-  acts_once_at task.Left found busy = absurd (cc)
-  acts_once_at (task.Load x) found busy = load_acts l x x.stage found
-  acts_once_at (task.Store x) found busy = store_acts l m.poll.local (register_of m x.g x.v) x x.stage found
-  acts_once_at (task.Global x) found busy = global_acts l (register_of m x.g x.r) x x.stage found
-  acts_once_at (task.Register x) found busy = (refl, refl)
-  acts_once_at (task.New x) found busy = new_acts x.wanted x.stage found
-  acts_once_at (task.Gc g x) found busy = gc_acts g (wait.goes l (wait.waiting x m.poll) found) (wait.gives l (wait.waiting x m.poll) found)
-  acts_once_at task.Poll found busy = poll_acts (poll.goes l m.poll found) (poll.gives l m.poll found)
-  acts_once_at (task.End g) found busy = (refl, refl)
-  acts_once_at (task.Leave x) found busy = leave_acts (leave.goes x found) (leave.gives x found)
+  acts_once_at Task.Idle found busy = absurd (cc)
+  acts_once_at Task.Left found busy = absurd (cc)
+  acts_once_at (Task.Load x) found busy = load_acts l x x.stage found
+  acts_once_at (Task.Store x) found busy = store_acts l m.poll.local (register_of m x.g x.v) x x.stage found
+  acts_once_at (Task.Global x) found busy = global_acts l (register_of m x.g x.r) x x.stage found
+  acts_once_at (Task.Register x) found busy = (refl, refl)
+  acts_once_at (Task.New x) found busy = new_acts x.wanted x.stage found
+  acts_once_at (Task.Gc g x) found busy = gc_acts g (wait.goes l (wait.waiting x m.poll) found) (wait.gives l (wait.waiting x m.poll) found)
+  acts_once_at Task.Poll found busy = poll_acts (poll.goes l m.poll found) (poll.gives l m.poll found)
+  acts_once_at (Task.End g) found busy = (refl, refl)
+  acts_once_at (Task.Leave x) found busy = leave_acts (leave.goes x found) (leave.gives x found)
 
 -- ---- where an operation begins, it is to act
 

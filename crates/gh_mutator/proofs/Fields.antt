@@ -1,9 +1,6 @@
 -- Facts of what a load or a store reads.
 use Rattle.std.proofs.Common.{◌≡◌, ℕ, ◌^◌, ◌<◌, ◌≤◌, Bool, true, arith}
-use Rattle.gh_base.specs.Packing.{page_of, slot_in}
-use Rattle.gh_mutator.specs.Fields.{has_field, value_of}
-use Rattle.gh_poll.specs.Registers.{IsNear}
-use Rattle.gh_mutator.specs.Sound.{IsFieldNumber}
+use Rattle.gh_mutator.proofs.Vocabulary.{has_field, IsFieldNumber, IsNear, page_of, slot_in, value_of}
 use Rattle.gh_mutator.proofs.ClassFacts.{ClassLaws}
 
 pub value_near : (pages : ℕ) (pointer : Bool) (found : ℕ) → 1 ≤ pages → IsNear pages (value_of pages pointer found)

@@ -1,24 +1,8 @@
 -- Own steps of the load and the store of a global.
-use Rattle.std.proofs.Common.{◌≡◌, ℕ, ◌+◌, ◌^◌, ◌<◌, ◌≤◌, Bool, true, false, cond, Option, arith}
-use Rattle.gh_base.specs.declared.held.Held.{Held}
-use Rattle.gh_base.specs.declared.layout.Layout.{Layout}
-use Rattle.gh_base.specs.Holding.{IsHeld}
-use Rattle.gh_base.specs.Machines.{IsRoutine}
-use Rattle.gh_base.specs.declared.value.Value.{Value}
-use Rattle.gh_barrier.specs.Ending.{write_left, WritingEnds}
-use Rattle.gh_barrier.specs.Listing.{Writing as PointerWrite}
+use Rattle.std.proofs.Common.{◌≡◌, ℕ, ◌+◌, ◌^◌, ◌<◌, ◌≤◌, Bool, true, false, Option, arith}
+use Rattle.gh_mutator.proofs.Vocabulary.{begins_store, Global, GlobalRoom, GlobalStage, Held, held_behind, IsHeld, IsNear, IsRegister, IsRoutine, Layout, Local, Polling, SoundGlobal, step, Then, Value, write_left, WritingEnds}
 use Rattle.gh_barrier.specs.Listing as write
-use Rattle.gh_mutator.specs.declared.global.Global.{Global}
-use Rattle.gh_mutator.specs.declared.global.GlobalStage.{GlobalStage}
 use Rattle.gh_mutator.specs.declared.global.GlobalStage.TheVariants.{Load, Writing, Number}
-use Rattle.gh_poll.specs.declared.poll.Local.{Local}
-use Rattle.gh_mutator.specs.declared.step.Then.{Then}
-use Rattle.gh_mutator.specs.Faults.{is_load}
-use Rattle.gh_mutator.specs.Global.{asks, begins_store, held_behind, step}
-use Rattle.gh_poll.specs.Local.{is_mark}
-use Rattle.gh_poll.specs.Poll.{Polling}
-use Rattle.gh_mutator.specs.Sound.{GlobalRoom, SoundGlobal}
-use Rattle.gh_poll.specs.Registers.{IsNear, IsRegister}
 use Rattle.gh_mutator.proofs.Opens.{write_opens}
 use Rattle.gh_mutator.proofs.Steps.{FaultsFrom, GoesTo, StepSound}
 
@@ -59,9 +43,6 @@ Left most then = GoesTo (λ (y : Global). (writes_on y.stage ≡ true) × (left 
 pub nears : WritingEnds → (l : Layout) (held : Value) (x : Global) (found : ℕ) → writes_on x.stage ≡ true → (1 ≤ left x) × Left (left x) (step l held x found).then
 nears ends_so l held x found on = grind arith
 
-pub begins_store_left : (own : Local) (g k v : ℕ) (held : Value) → (writes_on (begins_store own g k v held).stage ≡ true) × (left (begins_store own g k v held) ≤ cond (is_mark own.view.phase) 8 1)
-begins_store_left own g k v held = grind arith
-
 -- ---- a fault has loaded words alone
 
 abbrev pub may_fault_at : GlobalStage → Bool
@@ -77,6 +58,3 @@ faults l held x found = grind arith
 -- what is held stays
 pub holds_still : (l : Layout) (held : Option Held) (s : GlobalStage) (found : ℕ) → may_fault_at s ≡ true → held_behind l held s found ≡ held
 holds_still l held s found e = grind arith
-
-pub loads : (l : Layout) (held : Value) (x : Global) → may_fault x ≡ true → is_load (asks l held x) ≡ true
-loads l held x e = grind arith

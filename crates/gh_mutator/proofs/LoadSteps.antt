@@ -1,18 +1,9 @@
 -- Own steps of a load.
-use Rattle.std.proofs.Common.{◌≡◌, ℕ, ◌+◌, ◌*◌, ◌<◌, ◌≤◌, Bool, true, false, cond, refl, arith}
-use Rattle.gh_base.specs.declared.layout.Layout.{Layout}
-use Rattle.gh_base.specs.declared.value.Answer.TheVariants as answer
-use Rattle.gh_base.specs.declared.value.Fault.TheVariants as fault
-use Rattle.gh_base.specs.declared.value.Value.{Value}
-use Rattle.gh_mutator.specs.declared.load.Load.{Load}
-use Rattle.gh_mutator.specs.declared.load.LoadStage.{LoadStage}
+use Rattle.std.proofs.Common.{◌≡◌, ℕ, ◌+◌, ◌*◌, ◌<◌, Bool, true, false, cond, refl, arith}
+use Rattle.gh_mutator.proofs.Vocabulary.{Answer, ends, Fault, goes_on, has_field, is_pointer_by, IsNear, IsRegister, Layout, Load, LoadStage, SoundLoad, SoundLoadStage, Value, value_of}
 use Rattle.gh_mutator.specs.declared.load.LoadStage.TheVariants.{Page, Bits, Field, Birth, NilBase}
-use Rattle.gh_mutator.specs.Faults.{is_load}
-use Rattle.gh_mutator.specs.Fields.{has_field, is_pointer_by, takes, value_of}
-use Rattle.gh_mutator.specs.Load.{asks, at_stage, begins, naming, step, step_at}
-use Rattle.gh_poll.specs.Registers.{IsNear, IsRegister}
-use Rattle.gh_mutator.specs.Sound.{SoundLoad, SoundLoadStage}
-use Rattle.gh_mutator.specs.Step.{ends, goes_on}
+use Rattle.gh_mutator.specs.Fields.{takes}
+use Rattle.gh_mutator.specs.Load.{at_stage, naming, step, step_at}
 use Rattle.gh_mutator.proofs.ClassFacts.{ClassLaws}
 use Rattle.gh_mutator.proofs.Fields.{field_there, value_near}
 use Rattle.gh_mutator.proofs.Steps.{FaultsFrom, Nears, StepSound}
@@ -29,7 +20,7 @@ module _ (l : Layout) (x : Load) (register : IsRegister x.g x.d) (within : x.at 
   step_sound_at : ClassLaws → (s : LoadStage) (found : ℕ) → SoundLoadStage x.k s → StepSound (SoundLoad l.pages) l.pages (step_at l x s found)
   step_sound_at laws NilBase found h = record { next = tt; sets = tt }
   step_sound_at laws Page found h = go (has_field x.k found) refl where
-    go : (b : Bool) → has_field x.k found ≡ b → StepSound (SoundLoad l.pages) l.pages (cond b (goes_on (at_stage x Bits)) (ends (answer.Fault fault.Field)))
+    go : (b : Bool) → has_field x.k found ≡ b → StepSound (SoundLoad l.pages) l.pages (cond b (goes_on (at_stage x Bits)) (ends (Answer.Fault Fault.Field)))
     go true e = record { next = sound_at Bits (field_there laws x.k found e); sets = tt }
     go false e = record { next = tt; sets = tt }
   step_sound_at laws Bits found h = record { next = sound_at (Field (is_pointer_by l (x.at + x.k) found)) h; sets = tt }
@@ -52,9 +43,6 @@ left x = left_at x.stage
 pub nears : (l : Layout) (x : Load) (found : ℕ) → Nears left x (step l x found).then
 nears l x found = grind arith
 
-pub begins_left : (g d b k : ℕ) (v : Value) → left (begins g d b k v) ≤ 4
-begins_left g d b k v = grind arith
-
 -- ---- a fault has loaded words alone
 
 abbrev pub may_fault_at : LoadStage → Bool
@@ -67,6 +55,3 @@ may_fault x = may_fault_at x.stage
 
 pub faults : (l : Layout) (x : Load) (found : ℕ) → FaultsFrom may_fault x (step l x found)
 faults l x found = grind arith
-
-pub loads : (l : Layout) (x : Load) → may_fault x ≡ true → is_load (asks l x) ≡ true
-loads l x e = grind arith

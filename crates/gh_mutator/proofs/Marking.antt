@@ -1,23 +1,18 @@
 -- While marking is on, each step of a whole processor that polls, waits or leaves is made of moves that its seat may make: by its tasks.
 use Rattle.std.proofs.Common.{◌≡◌, ℕ, true, List, Option, None, refl, sym, subst, arith}
+use Rattle.gh_mutator.proofs.Vocabulary.{after_gc, after_leave, after_poll, asks_at, Assist, begins, GlobalStage, leaves_on, Leaving, Local, NewStage, Op, Place, PointerWrite, Polling, Processor, Search, Shape, stage_at, Store, StoreStage, takes_at, Task, Wait, Waiting, WaitState, Want, Wanted}
 use Rattle.gh_assist.specs.Facts.{AssistsByMoves}
 use Rattle.gh_barrier.specs.Facts.{WritesByMoves}
-use Rattle.gh_barrier.specs.Listing.{Writing as PointerWrite}
 use Rattle.gh_phase.specs.Shakes.{IsParked}
-use Rattle.gh_mutator.specs.declared.global.GlobalStage.TheVariants as global_stage
-use Rattle.gh_poll.specs.declared.leave.LeaveStage.TheVariants as leave_stage
-use Rattle.gh_mutator.specs.declared.store.StoreStage.TheVariants as store_stage
-use Rattle.gh_mutator.specs.declared.task.Task.TheVariants as task
 use Rattle.gh_poll.specs.Give as give
 use Rattle.gh_poll.specs.Leave as leave
-use Rattle.gh_poll.specs.MarkFacts.{IsBetween, KnowsCycle, KnowsStacks, LeaveFacts, LeavesByMoves, PollFacts, PollsByMoves, RestFacts, WaitFacts, WaitsByMoves, stacks_last}
+use Rattle.gh_poll.specs.MarkFacts.{IsBetween, KnowsCycle, KnowsStacks, LeaveFacts, LeavesByMoves, PollFacts, PollsByMoves, RestFacts, WaitFacts, WaitsByMoves, stacks_last, holding_only}
 use Rattle.gh_mutator.specs.New as new
 use Rattle.gh_poll.specs.Poll as poll
 use Rattle.gh_mutator.specs.ProcessorMarks.{GlobalFacts, IsWriting, MarkFacts, MarksByMoves, new_polls, NewFacts, only_polls, reserved_at, StoreFacts, TaskFacts}
-use Rattle.gh_poll.specs.Stays.{leaves_on}
-use Rattle.gh_mutator.specs.Vocabulary.{Assist, GlobalStage, Polling, Store, StoreStage}
 use Rattle.gh_poll.specs.Wait as wait
-use Rattle.gh_mutator.proofs.Vocabulary.{after_gc, after_leave, after_poll, asks_at, begins, cell_of, Cycle, effect, Good, Hands, holding_only, Keeps, KnowsObjects, landing, LeaveStage, Leaving, Local, NewStage, nothing, Op, Others, Place, Processor, Search, Shape, Shared, stage_at, Steps, takes_at, Task, Wait, Waiting, WaitState, Wanted, Want}
+use Rattle.gh_mutator.specs.Vocabulary.{cell_of}
+use Rattle.gh_mutator.specs.MarkVocabulary.{Cycle, effect, Good, Hands, Keeps, KnowsObjects, landing, LeaveStage, nothing, Others, Shared, Steps}
 use Rattle.gh_poll.proofs.Marking.Known.{Known}
 
 module _ (k : Known) (h : PollsByMoves) (v : WaitsByMoves) (l : LeavesByMoves) (b : WritesByMoves) (c : AssistsByMoves) (z : Cycle) (a : ℕ) where
@@ -35,14 +30,14 @@ module _ (k : Known) (h : PollsByMoves) (v : WaitsByMoves) (l : LeavesByMoves) (
     abbrev Leads : Task → Type 0
     Leads t = Steps z a s (asks_at z.arena.layout m t) (λ u. MarkFacts z a u (takes_at z.arena.layout shapes m t (s.words (cell_of (asks_at z.arena.layout m t)))))
 
-    polls : PollFacts z a s m.poll → Leads task.Poll
+    polls : PollFacts z a s m.poll → Leads Task.Poll
     polls f =
         let n : ℕ = s.words (cell_of (poll.asks m.poll)) in
         landing z a s (effect s.words (poll.asks m.poll)) (λ t. PollFacts z a t (poll.goes z.arena.layout m.poll n)) (λ t. MarkFacts z a t (after_poll m (poll.goes z.arena.layout m.poll n) (poll.gives z.arena.layout m.poll n)))
         (λ t went f. polled_then t m (poll.goes z.arena.layout m.poll n) (poll.gives z.arena.layout m.poll n) refl f)
         (h.own_step z a s m.poll good objects now f)
 
-    waits : (g : ℕ) (x : WaitState) → WaitFacts z a s (wait.waiting x m.poll) → Leads (task.Gc g x)
+    waits : (g : ℕ) (x : WaitState) → WaitFacts z a s (wait.waiting x m.poll) → Leads (Task.Gc g x)
     waits g x f =
         let w : Waiting = wait.waiting x m.poll in
         let n : ℕ = s.words (cell_of (wait.asks w)) in
@@ -50,7 +45,7 @@ module _ (k : Known) (h : PollsByMoves) (v : WaitsByMoves) (l : LeavesByMoves) (
         (λ t went f. gc_then t m g (wait.goes z.arena.layout w n) (wait.gives z.arena.layout w n) refl f)
         (v.own_step z a s w good objects now f)
 
-    new_waits : (n : Wanted) (x : WaitState) → WaitFacts z a s (wait.waiting x m.poll) → Leads (task.New (record { wanted = n; stage = Wait x }))
+    new_waits : (n : Wanted) (x : WaitState) → WaitFacts z a s (wait.waiting x m.poll) → Leads (Task.New (record { wanted = n; stage = Wait x }))
     new_waits wanted x f =
         let w : Waiting = wait.waiting x m.poll in
         let n : ℕ = s.words (cell_of (wait.asks w)) in
@@ -58,16 +53,16 @@ module _ (k : Known) (h : PollsByMoves) (v : WaitsByMoves) (l : LeavesByMoves) (
         (λ t went f. new_then t m wanted (wait.goes z.arena.layout w n) (wait.gives z.arena.layout w n) refl f)
         (v.own_step z a s w good objects now f)
 
-    new_steps : (n : Wanted) (q : NewStage) → new_polls q ≡ true → NewFacts z a s m.poll q → Leads (task.New (record { wanted = n; stage = q }))
+    new_steps : (n : Wanted) (q : NewStage) → new_polls q ≡ true → NewFacts z a s m.poll q → Leads (Task.New (record { wanted = n; stage = q }))
     new_steps n q only x = grind (arith, new_waits)
 
     left_then : (t : Shared) (x : Leaving) (q : LeaveStage) (found : ℕ) → m.poll.local.held ≡ None → Keeps z a s t → LeaveFacts z a t (leave.goes_at x q found).stage → MarkFacts z a t (after_leave m (leave.goes_at x q found) (leave.given (leave.goes_at x q found).stage))
-    left_then t x (leave_stage.Giving g) found none kept f = subst (λ (o : Option (Unit {0})). MarkFacts z a t (after_leave m (leave.goes_at x (leave_stage.Giving g) found) o)) (sym (leaves_on (give.goes g found)))
+    left_then t x (LeaveStage.Giving g) found none kept f = subst (λ (o : Option (Unit {0})). MarkFacts z a t (after_leave m (leave.goes_at x (LeaveStage.Giving g) found) o)) (sym (leaves_on (give.goes g found)))
         (record { seat_is = seat_is; stacks = stacks_last z a s t m.poll.local.stacks m.poll.local.scanned kept stacks; task_is = (none, f) })
-    left_then t x leave_stage.Leave found none kept f = record { seat_is = seat_is; stacks = stacks_last z a s t m.poll.local.stacks m.poll.local.scanned kept stacks; task_is = (none, f) }
-    left_then t x leave_stage.Left found none kept f = record { seat_is = seat_is; stacks = stacks_last z a s t m.poll.local.stacks m.poll.local.scanned kept stacks; task_is = (none, f) }
+    left_then t x LeaveStage.Leave found none kept f = record { seat_is = seat_is; stacks = stacks_last z a s t m.poll.local.stacks m.poll.local.scanned kept stacks; task_is = (none, f) }
+    left_then t x LeaveStage.Left found none kept f = record { seat_is = seat_is; stacks = stacks_last z a s t m.poll.local.stacks m.poll.local.scanned kept stacks; task_is = (none, f) }
 
-    leaves : (x : Leaving) → m.poll.local.held ≡ None → LeaveFacts z a s x.stage → Leads (task.Leave x)
+    leaves : (x : Leaving) → m.poll.local.held ≡ None → LeaveFacts z a s x.stage → Leads (Task.Leave x)
     leaves x none f =
         let n : ℕ = s.words (cell_of (leave.asks x)) in
         landing z a s (effect s.words (leave.asks x)) (λ t. Keeps z a s t × LeaveFacts z a t (leave.goes x n).stage) (λ t. MarkFacts z a t (after_leave m (leave.goes x n) (leave.gives x n)))
@@ -75,10 +70,10 @@ module _ (k : Known) (h : PollsByMoves) (v : WaitsByMoves) (l : LeavesByMoves) (
         (l.own_step z a s x good objects f)
 
     steps_at : (t : Task) → only_polls t ≡ true → TaskFacts z a s m.poll t → Leads t
-    steps_at (task.New y) only x = new_steps y.wanted y.stage only x
-    steps_at (task.Gc g y) only x = waits g y x
-    steps_at task.Poll only x = polls x
-    steps_at (task.Leave y) only x = leaves y x.0 x.1
+    steps_at (Task.New y) only x = new_steps y.wanted y.stage only x
+    steps_at (Task.Gc g y) only x = waits g y x
+    steps_at Task.Poll only x = polls x
+    steps_at (Task.Leave y) only x = leaves y x.0 x.1
     steps_at _ only x = absurd (cc)
 
   -- what others do
@@ -101,25 +96,25 @@ module _ (k : Known) (h : PollsByMoves) (v : WaitsByMoves) (l : LeavesByMoves) (
   writing_lasts s t local w o x = record { stacks = stacks_last z a s t local.stacks local.scanned o.keeps x.stacks; number = x.number; writes = b.keeps.lasts z a s t nothing w o x.writes }
 
   store_lasts : (s t : Shared) (p : Polling) (y : Store) (q : StoreStage) → Others z a s t → StoreFacts z a s p y q → StoreFacts z a t p y q
-  store_lasts s t p y store_stage.Page o x = (between_lasts s t p.local o x.0, x.1)
-  store_lasts s t p y store_stage.Bits o x = (between_lasts s t p.local o x.0, x.1)
-  store_lasts s t p y store_stage.Field o x = (between_lasts s t p.local o x.0, x.1)
-  store_lasts s t p y (store_stage.Writing w) o x = writing_lasts s t p.local w o x
-  store_lasts s t p y store_stage.NilBase o x = between_lasts s t p.local o x
+  store_lasts s t p y StoreStage.Page o x = (between_lasts s t p.local o x.0, x.1)
+  store_lasts s t p y StoreStage.Bits o x = (between_lasts s t p.local o x.0, x.1)
+  store_lasts s t p y StoreStage.Field o x = (between_lasts s t p.local o x.0, x.1)
+  store_lasts s t p y (StoreStage.Writing w) o x = writing_lasts s t p.local w o x
+  store_lasts s t p y StoreStage.NilBase o x = between_lasts s t p.local o x
 
   global_lasts : (s t : Shared) (p : Polling) (q : GlobalStage) → Others z a s t → GlobalFacts z a s p q → GlobalFacts z a t p q
-  global_lasts s t p global_stage.Store o x = (between_lasts s t p.local o x.0, x.1)
-  global_lasts s t p (global_stage.Writing w) o x = writing_lasts s t p.local w o x
+  global_lasts s t p GlobalStage.Store o x = (between_lasts s t p.local o x.0, x.1)
+  global_lasts s t p (GlobalStage.Writing w) o x = writing_lasts s t p.local w o x
   global_lasts s t p _ o x = between_lasts s t p.local o x
 
   task_lasts : (s t : Shared) (p : Polling) (q : Task) → Others z a s t → TaskFacts z a s p q → TaskFacts z a t p q
-  task_lasts s t p task.Left o x = (x.0, k.last z a s t nothing o x.1)
-  task_lasts s t p (task.New y) o x = new_lasts s t p y.stage o x
-  task_lasts s t p (task.Gc g y) o x = v.lasts z a s t (wait.waiting y p) o x
-  task_lasts s t p (task.Store y) o x = store_lasts s t p y y.stage o x
-  task_lasts s t p (task.Global y) o x = global_lasts s t p y.stage o x
-  task_lasts s t p task.Poll o x = h.lasts z a s t p o x
-  task_lasts s t p (task.Leave y) o x = (x.0, l.lasts z a s t y o x.1)
+  task_lasts s t p Task.Left o x = (x.0, k.last z a s t nothing o x.1)
+  task_lasts s t p (Task.New y) o x = new_lasts s t p y.stage o x
+  task_lasts s t p (Task.Gc g y) o x = v.lasts z a s t (wait.waiting y p) o x
+  task_lasts s t p (Task.Store y) o x = store_lasts s t p y y.stage o x
+  task_lasts s t p (Task.Global y) o x = global_lasts s t p y.stage o x
+  task_lasts s t p Task.Poll o x = h.lasts z a s t p o x
+  task_lasts s t p (Task.Leave y) o x = (x.0, l.lasts z a s t y o x.1)
   task_lasts s t p _ o x = between_lasts s t p.local o x
 
   abbrev HasNothing : Shared → Polling → Type 0

@@ -1,28 +1,16 @@
 -- What a routine begins with is sound, by what the poll knows of its own numbers.
 use Rattle.std.proofs.Common.{◌≡◌, ℕ, ◌+◌, ◌*◌, ◌/◌, ◌^◌, ◌<◌, ◌≤◌, Bool, List, Option, None, get_or, refl, subst, arith}
-use Rattle.std.proofs.lemmas.Bool.Decides.{nat_tests}
+use Rattle.gh_mutator.proofs.Vocabulary.{cached_in, CachedSpan, FitsSpanHead, IsCached, IsHeld, IsNear, IsSought, Large, Layout, Local, Name, nat_tests, own_span, Polling, Runs, Shape, Small, Sought, SoundPolling, span_index, Value, written}
 use Rattle.gh_assist.specs.Listing as assist
-use Rattle.gh_alloc.specs.FindSound.{IsCached, IsSought}
 use Rattle.gh_alloc.specs.Place as place
-use Rattle.gh_alloc.specs.PlaceSound.{FitsSpanHead}
 use Rattle.gh_alloc.specs.Search as search
 use Rattle.gh_barrier.specs.declared.pointer_cell.PointerCell.{PointerCell}
 use Rattle.gh_barrier.specs.Listing as write
 use Rattle.gh_base.specs.Cells.{InRange}
-use Rattle.gh_base.specs.Holding.{IsHeld}
-use Rattle.gh_base.specs.Machines.{Runs}
-use Rattle.gh_class.specs.Classes.{span_index}
 use Rattle.gh_class.specs.declared.class.SpanClass.{SpanClass}
-use Rattle.gh_mutator.specs.New.{own_span}
-use Rattle.gh_mutator.specs.Vocabulary.{CachedSpan, Large, Layout, Name, Polling, Shape, Small, Sought, Value}
 use Rattle.gh_mutator.proofs.ClassFacts.{ClassLaws}
-use Rattle.gh_poll.specs.Barrier.{written}
 use Rattle.gh_poll.specs.Cached.{SoundCached}
 use Rattle.gh_poll.specs.GiveSound.{FitsCache}
-use Rattle.gh_poll.specs.Local.{cached_in}
-use Rattle.gh_poll.specs.PollSound.{SoundPolling}
-use Rattle.gh_poll.specs.declared.poll.Local.{Local}
-use Rattle.gh_poll.specs.Registers.{IsNear}
 
 -- the span that is cached for what is sought fits
 half : (c : SpanClass) → span_index c / 2 ≡ c.class

@@ -1,33 +1,24 @@
 -- What a processor owes is dropped where marking is off, or another cycle is marked: by its tasks.
 use Rattle.std.proofs.Common.{◌≡◌, ◌⊎◌, inl, subst, ℕ, Bool, true, false, cond, List, Option, Some, refl, sym, ap, arith}
-use Rattle.gh_base.specs.declared.held.Held.{Held}
-use Rattle.gh_phase.specs.declared.resume.Resumed.{Resumed}
+use Rattle.gh_mutator.proofs.Vocabulary.{after_gc, after_leave, after_mark, after_place, after_poll, after_resume, after_room, after_search, after_wait, Assist, Assisting, assists, by_phase, cache_span, CachedSpan, follows, Found, Held, is_busy_at, is_mark, keeping, Layout, Leaving, Name, NewStage, Op, other_cycle_owes, Place, Placing, Polling, PollStage, Processor, processor_kind, register_of, Resumed, RunPhase, Search, Seeking, Shape, stops_then, takes_at, taking, Task, Then, Value, Wait, Waiting, Want, Wanted}
 use Rattle.gh_phase.specs.declared.view.View.{View}
 use Rattle.gh_phase.specs.Listing as resume
 use Rattle.gh_wbuf.specs.RoomFinding as room
 use Rattle.gh_alloc.specs.Place as place
 use Rattle.gh_alloc.specs.Search as search
 use Rattle.gh_assist.specs.Listing as assist
-use Rattle.gh_poll.specs.declared.poll.PollStage.TheVariants as poll_stage
-use Rattle.gh_mutator.specs.declared.task.Task.TheVariants as task
-use Rattle.gh_poll.specs.declared.wait.WaitStage.TheVariants as wait_stage
 use Rattle.gh_poll.specs.Give as give
 use Rattle.gh_mutator.specs.Global as global
 use Rattle.gh_poll.specs.Leave as leave
 use Rattle.gh_mutator.specs.Load as load
-use Rattle.gh_poll.specs.Local.{is_mark}
 use Rattle.gh_poll.specs.MarkStack as mark
 use Rattle.gh_poll.specs.Poll as poll
-use Rattle.gh_poll.specs.Poll.{after_mark, after_resume, after_room, by_phase, due, giving, marks_then, owed_in, resumed, scans, stops_then}
-use Rattle.gh_mutator.specs.Processor.{keeping}
 use Rattle.gh_mutator.specs.Register as register
 use Rattle.gh_mutator.specs.Spending.{DebtsAreDropped, owed_at, owed_of, OwesWhileMarking}
 use Rattle.gh_mutator.specs.Store as store
-use Rattle.gh_mutator.specs.Vocabulary.{Polling}
-use Rattle.gh_poll.specs.Stays.{other_cycle_owes}
 use Rattle.gh_poll.specs.Wait as wait
 use Rattle.gh_mutator.specs.Running.{IsAssisting, SoundAssist, SoundAssistAt}
-use Rattle.gh_mutator.proofs.Vocabulary.{after_gc, after_leave, after_place, after_poll, after_search, after_wait, Assist, Assisting, assists, cache_span, CachedSpan, follows, Found, is_busy_at, Layout, Leaving, Name, NewStage, Op, Place, Placing, PollStage, Processor, processor_kind, register_of, RunPhase, Search, Seeking, Shape, takes_at, taking, Task, Then, Value, Wait, WaitStage, Waiting, Want, Wanted}
+use Rattle.gh_mutator.specs.MarkVocabulary.{WaitStage}
 
 -- What is known of the phase, and what is owed.
 abbrev Due : Type 0
@@ -69,7 +60,7 @@ poll_drops l p found = grind (arith, poll_at)
 after_owes : (w : Waiting) (p : Polling) (out : Option (Unit {0})) → due_at (wait.after_poll w p out).poll ≡ due_at p
 after_owes w p out = grind arith
 
-swept_owes : (w : Waiting) (later : Bool) → due_at (cond later (wait.at_stage w wait_stage.Ended) (wait.polling w)).poll ≡ due_at w.poll
+swept_owes : (w : Waiting) (later : Bool) → due_at (cond later (wait.at_stage w WaitStage.Ended) (wait.polling w)).poll ≡ due_at w.poll
 swept_owes w later = grind arith
 
 wait_at : (l : Layout) (w : Waiting) (stage : WaitStage) (found : ℕ) → Drops (due_at w.poll) (due_at (wait.goes_at l w stage found).poll)
@@ -105,7 +96,7 @@ place_owes : (m : Processor) (w : Wanted) (made : Bool) (a : ℕ) (x : Placing) 
 place_owes m w made a x = grind arith
 
 abbrev with_stage : Wanted → NewStage → Task
-with_stage w q = task.New (record { wanted = w; stage = q })
+with_stage w q = Task.New (record { wanted = w; stage = q })
 
 abbrev running : Polling → List ℕ → Task → Processor
 running p made t = record { poll = p; made = made; task = t }
@@ -126,19 +117,19 @@ module _ (l : Layout) (shapes : List Shape) (p : Polling) (made : List ℕ) (fou
   new_drops w (Assist n x) rests = absurd (rests tt)
 
   drops_at : (t : Task) → is_busy_at t ≡ true → (IsAssisting t → ⊥) → DropsAt t
-  drops_at task.Idle busy rests = absurd (cc)
-  drops_at task.Left busy rests = absurd (cc)
-  drops_at (task.Load x) busy rests = same (let step = load.step l x found in into_owes task.Load (running p made (task.Load x)) x.g x.d step.sets step.then (λ q y. refl))
-  drops_at (task.Store x) busy rests = same
-      (let step = store.step l p.local (register_of (running p made (task.Store x)) x.g x.v) x found in into_owes task.Store (keeping (running p made (task.Store x)) (store.held_behind l p.local.held x.stage found)) x.g x.v step.sets step.then (λ q y. refl))
-  drops_at (task.Global x) busy rests = same
-      (let step = global.step l (register_of (running p made (task.Global x)) x.g x.r) x found in into_owes task.Global (keeping (running p made (task.Global x)) (global.held_behind l p.local.held x.stage found)) x.g x.r step.sets step.then (λ q y. refl))
-  drops_at (task.Register x) busy rests = same (let step = register.step (register_of (running p made (task.Register x)) x.g (register.read_of x)) x in into_owes task.Register (running p made (task.Register x)) x.g x.d step.sets step.then (λ q y. refl))
-  drops_at (task.New x) busy rests = new_drops x.wanted x.stage rests
-  drops_at (task.Gc g x) busy rests = behind (gc_owes (running p made (task.Gc g x)) g (wait.goes l (wait.waiting x p) found) (wait.gives l (wait.waiting x p) found)) (wait_drops l (wait.waiting x p) found)
-  drops_at task.Poll busy rests = behind (poll_then (running p made task.Poll) (poll.goes l p found) (poll.gives l p found)) (poll_drops l p found)
-  drops_at (task.End g) busy rests = same refl
-  drops_at (task.Leave x) busy rests = same (leave_owes (running p made (task.Leave x)) (leave.goes x found) (leave.gives x found))
+  drops_at Task.Idle busy rests = absurd (cc)
+  drops_at Task.Left busy rests = absurd (cc)
+  drops_at (Task.Load x) busy rests = same (let step = load.step l x found in into_owes Task.Load (running p made (Task.Load x)) x.g x.d step.sets step.then (λ q y. refl))
+  drops_at (Task.Store x) busy rests = same
+      (let step = store.step l p.local (register_of (running p made (Task.Store x)) x.g x.v) x found in into_owes Task.Store (keeping (running p made (Task.Store x)) (store.held_behind l p.local.held x.stage found)) x.g x.v step.sets step.then (λ q y. refl))
+  drops_at (Task.Global x) busy rests = same
+      (let step = global.step l (register_of (running p made (Task.Global x)) x.g x.r) x found in into_owes Task.Global (keeping (running p made (Task.Global x)) (global.held_behind l p.local.held x.stage found)) x.g x.r step.sets step.then (λ q y. refl))
+  drops_at (Task.Register x) busy rests = same (let step = register.step (register_of (running p made (Task.Register x)) x.g (register.read_of x)) x in into_owes Task.Register (running p made (Task.Register x)) x.g x.d step.sets step.then (λ q y. refl))
+  drops_at (Task.New x) busy rests = new_drops x.wanted x.stage rests
+  drops_at (Task.Gc g x) busy rests = behind (gc_owes (running p made (Task.Gc g x)) g (wait.goes l (wait.waiting x p) found) (wait.gives l (wait.waiting x p) found)) (wait_drops l (wait.waiting x p) found)
+  drops_at Task.Poll busy rests = behind (poll_then (running p made Task.Poll) (poll.goes l p found) (poll.gives l p found)) (poll_drops l p found)
+  drops_at (Task.End g) busy rests = same refl
+  drops_at (Task.Leave x) busy rests = same (leave_owes (running p made (Task.Leave x)) (leave.goes x found) (leave.gives x found))
 
   -- in an assist it is the assist's own account, and marking is on
   assists_at : (w : Wanted) (n : Name) (x : Assisting) → due_of (takes_at l shapes (running p made (assists w n x)) (assists w n x) found) ≡ (p.local.view, (assist.goes l x found).owed)
@@ -166,22 +157,22 @@ module _ (l : Layout) (shapes : List Shape) (p : Polling) (made : List ℕ) (fou
   off_new w (Want n) s before = off_plainly (with_stage w (Want n)) refl (λ a. a) before
 
   off_at : (t : Task) → SoundAssist p t → is_busy_at t ≡ true → OffAt t
-  off_at (task.New x) s busy before = off_new x.wanted x.stage s before
-  off_at task.Idle s busy before = absurd (cc)
-  off_at task.Left s busy before = absurd (cc)
-  off_at (task.Load x) s busy before = off_plainly (task.Load x) busy (λ a. a) before
-  off_at (task.Store x) s busy before = off_plainly (task.Store x) busy (λ a. a) before
-  off_at (task.Global x) s busy before = off_plainly (task.Global x) busy (λ a. a) before
-  off_at (task.Register x) s busy before = off_plainly (task.Register x) busy (λ a. a) before
-  off_at (task.Gc g x) s busy before = off_plainly (task.Gc g x) busy (λ a. a) before
-  off_at task.Poll s busy before = off_plainly task.Poll busy (λ a. a) before
-  off_at (task.End g) s busy before = off_plainly (task.End g) busy (λ a. a) before
-  off_at (task.Leave x) s busy before = off_plainly (task.Leave x) busy (λ a. a) before
+  off_at (Task.New x) s busy before = off_new x.wanted x.stage s before
+  off_at Task.Idle s busy before = absurd (cc)
+  off_at Task.Left s busy before = absurd (cc)
+  off_at (Task.Load x) s busy before = off_plainly (Task.Load x) busy (λ a. a) before
+  off_at (Task.Store x) s busy before = off_plainly (Task.Store x) busy (λ a. a) before
+  off_at (Task.Global x) s busy before = off_plainly (Task.Global x) busy (λ a. a) before
+  off_at (Task.Register x) s busy before = off_plainly (Task.Register x) busy (λ a. a) before
+  off_at (Task.Gc g x) s busy before = off_plainly (Task.Gc g x) busy (λ a. a) before
+  off_at Task.Poll s busy before = off_plainly Task.Poll busy (λ a. a) before
+  off_at (Task.End g) s busy before = off_plainly (Task.End g) busy (λ a. a) before
+  off_at (Task.Leave x) s busy before = off_plainly (Task.Leave x) busy (λ a. a) before
 
 begun : (shapes : List Shape) (z : Layout) (m : Processor) (o : Op) → is_busy_at m.task ≡ false → due_of ((processor_kind shapes z).begins m o) ≡ due_of m
 begun shapes z m o rests = grind arith
 
-other_cycle_step : (l : Layout) (p : Polling) (r : resume.Resuming) (found : ℕ) (out : Resumed) → p.stage ≡ poll_stage.Resuming r → resume.gives r found ≡ Some out → out.another_cycle ≡ true → (poll.goes l p found).local.owed ≡ 0
+other_cycle_step : (l : Layout) (p : Polling) (r : resume.Resuming) (found : ℕ) (out : Resumed) → p.stage ≡ PollStage.Resuming r → resume.gives r found ≡ Some out → out.another_cycle ≡ true → (poll.goes l p found).local.owed ≡ 0
 other_cycle_step l p r found out is gives another = grind arith
 
 assists_so : (l : Layout) (shapes : List Shape) (m : Processor) (found : ℕ) (w : Wanted) (n : Name) (x : Assisting) (t : Task) → t ≡ assists w n x → owed_of (takes_at l shapes m t found) ≡ (assist.goes l x found).owed

@@ -1,23 +1,13 @@
 -- A poll of a turn's own makes room for the store behind it, whatever words it is told.
 use Rattle.std.proofs.Common.{◌≡◌, ℕ, Bool, true, false, cond, List, Option, Some, None, refl, arith}
-use Rattle.std.proofs.lemmas.Bool.Decides.{nat_tests}
-use Rattle.gh_base.specs.declared.held.Held.{Held}
-use Rattle.gh_phase.specs.declared.view.RunPhase.{RunPhase}
+use Rattle.gh_mutator.proofs.Vocabulary.{after_mark, after_poll, after_resume, after_room, by_phase, counted, given, giving, goes_at, has_room, has_two, Held, is_busy_at, is_mark, Layout, Local, marks_then, nat_tests, Op, phase_of, Polling, PollStage, Processor, Resumed, resumed, RunPhase, scanned, Shape, stops_then, takes_at, Task}
 use Rattle.gh_phase.specs.Listing as resume
 use Rattle.gh_wbuf.specs.declared.find_room.RoomStage.{RoomStage}
 use Rattle.gh_wbuf.specs.RoomFinding as room
-use Rattle.gh_poll.specs.Collecting.{phase_of, Resumed, run_phase}
-use Rattle.gh_poll.specs.declared.poll.Local.{Local}
-use Rattle.gh_poll.specs.declared.poll.PollStage.{PollStage}
-use Rattle.gh_poll.specs.declared.poll.PollStage.TheVariants as poll_stage
+use Rattle.gh_poll.specs.Collecting.{run_phase}
 use Rattle.gh_poll.specs.Give as give
-use Rattle.gh_mutator.specs.Listing.{after_poll, is_busy_at, takes_at}
-use Rattle.gh_poll.specs.Local.{is_mark}
 use Rattle.gh_poll.specs.MarkStack as mark
-use Rattle.gh_poll.specs.Poll.{after_mark, after_resume, after_room, by_phase, counted, given, giving, goes_at, has_two, marks_then, resumed, scanned, stops_then}
 use Rattle.gh_mutator.specs.PollRoom.{HasRoomToStore, LooksForRoom, MakesRoom, PollsMakeRoom, RoomAt, RoomBehind, TriesForRoom}
-use Rattle.gh_mutator.specs.Sound.{has_room}
-use Rattle.gh_mutator.specs.Vocabulary.{Layout, Op, Polling, Processor, Shape, Task}
 
 -- The search.
 
@@ -42,27 +32,27 @@ stops : (p : Polling) (g : give.Giving) (number : ℕ) → p.waits ≡ false →
 stops p g number turn = grind arith
 
 goes_so : (l : Layout) (p : Polling) (q : PollStage) (found : ℕ) → p.waits ≡ false → p.stage ≡ q → RoomAt p q → MakesRoom (goes_at l p q found)
-goes_so l p poll_stage.LoadPhase found turn is k = by (run_phase (phase_of found).phase) where
+goes_so l p PollStage.LoadPhase found turn is k = by (run_phase (phase_of found).phase) where
   by : (phase : Option RunPhase) → MakesRoom (by_phase l p (phase_of found).stops phase)
   by None = stops p (giving p) (phase_of found).stops turn
   by (Some phase) = marks l p p.local.view.phase refl turn
-goes_so l p (poll_stage.Giving g number) found turn is k = stops p (give.goes g found) number turn
-goes_so l p (poll_stage.Resuming r) found turn is k = by (resume.gives r found) where
+goes_so l p (PollStage.Giving g number) found turn is k = stops p (give.goes g found) number turn
+goes_so l p (PollStage.Resuming r) found turn is k = by (resume.gives r found) where
   by : (out : Option Resumed) → MakesRoom (after_resume l p (resume.goes r found) out)
   by None = record { no_wait = turn; stage = tt }
   by (Some out) = marks l (resumed p out) out.view.phase refl turn
-goes_so l p (poll_stage.Marking g m) found turn is k = by (mark.gives l m found) where
+goes_so l p (PollStage.Marking g m) found turn is k = by (mark.gives l m found) where
   by : (out : Option (Unit {0})) → MakesRoom (after_mark p g (mark.goes l m found) out)
   by None = record { no_wait = turn; stage = tt }
   by (Some x) = counts (scanned p g (mark.goes l m found).held) turn
-goes_so l p (poll_stage.FindRoom r) found turn is k = by (room.gives l r found) refl where
+goes_so l p (PollStage.FindRoom r) found turn is k = by (room.gives l r found) refl where
   then : TriesForRoom (room.goes l r found).stage
   then = searched l r r.stage found k
 
   by : (out : Option Held) → room.gives l r found ≡ out → MakesRoom (after_room p (room.goes l r found) out)
   by None e = record { no_wait = turn; stage = then }
   by (Some own) e = record { no_wait = turn; stage = entries_if (record (p.local) { held = Some own }) (is_mark p.local.view.phase) (found_two (room.goes l r found).stage own then e) }
-goes_so l p poll_stage.Ended found turn is k = record { no_wait = turn; stage = k }
+goes_so l p PollStage.Ended found turn is k = record { no_wait = turn; stage = k }
 
 takes_none : (l : Layout) (p : Polling) (q : PollStage) (found : ℕ) → p.stage ≡ q → p.waits ≡ true → LooksForRoom (goes_at l p q found).stage → LooksForRoom q
 takes_none l p q found is waits x = grind arith

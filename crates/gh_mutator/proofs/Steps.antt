@@ -1,13 +1,7 @@
 -- What is known of each statement's step, read off it.
 use Rattle.std.proofs.Common.{◌≡◌, ℕ, ◌+◌, ◌≤◌, Bool, true, Option, Some, None, arith}
+use Rattle.gh_mutator.proofs.Vocabulary.{answered, Cause, Ends, GoesOn, IsNear, Step, Then, Value}
 use Rattle.gh_base.specs.declared.value.Answer.TheVariants.{Fault}
-use Rattle.gh_base.specs.declared.value.Fault.{Fault as Cause}
-use Rattle.gh_base.specs.declared.value.Value.{Value}
-use Rattle.gh_mutator.specs.declared.step.Step.{Step}
-use Rattle.gh_mutator.specs.declared.step.Then.{Then}
-use Rattle.gh_mutator.specs.declared.step.Then.TheVariants.{GoesOn, Ends}
-use Rattle.gh_poll.specs.Registers.{IsNear}
-use Rattle.gh_mutator.specs.Step.{answered}
 
 -- the register takes a value that is near
 abbrev pub SetsNear : (pages : ℕ) → Option Value → Type 0

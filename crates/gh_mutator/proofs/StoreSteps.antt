@@ -1,30 +1,9 @@
 -- Own steps of a store.
-use Rattle.std.proofs.Common.{◌≡◌, ℕ, ◌+◌, ◌*◌, ◌^◌, ◌<◌, ◌≤◌, Bool, true, false, cond, Option, Some, None, refl, ap, arith}
-use Rattle.std.specs.Prelude.{is_none}
-use Rattle.gh_base.specs.declared.held.Held.{Held}
-use Rattle.gh_base.specs.declared.layout.Layout.{Layout}
-use Rattle.gh_base.specs.Holding.{IsHeld}
-use Rattle.gh_base.specs.Machines.{IsRoutine}
-use Rattle.gh_base.specs.declared.value.Answer.TheVariants as answer
-use Rattle.gh_base.specs.declared.value.Fault.TheVariants as fault
-use Rattle.gh_base.specs.declared.value.Value.{Value}
-use Rattle.gh_barrier.specs.Ending.{write_left, WritingEnds}
-use Rattle.gh_barrier.specs.Listing.{Writing as PointerWrite}
+use Rattle.std.proofs.Common.{◌≡◌, ℕ, ◌+◌, ◌*◌, ◌^◌, ◌<◌, ◌≤◌, Bool, true, false, cond, Option, Some, None, refl, ap, arith, is_none}
+use Rattle.gh_mutator.proofs.Vocabulary.{Answer, ends, Fault, goes_on, has_field, Held, held_then, is_mark, is_pointer_by, IsHeld, IsNear, IsRegister, IsRoutine, Layout, Local, PointerWrite, Polling, SoundStore, SoundStoreStage, Store, StoreRoom, StoreStage, Then, Value, with_held, write_left, WritingEnds}
 use Rattle.gh_barrier.specs.Listing as write
-use Rattle.gh_poll.specs.declared.poll.Local.{Local}
-use Rattle.gh_mutator.specs.declared.step.Then.{Then}
-use Rattle.gh_mutator.specs.declared.store.Store.{Store}
-use Rattle.gh_mutator.specs.declared.store.StoreStage.{StoreStage}
 use Rattle.gh_mutator.specs.declared.store.StoreStage.TheVariants.{Page, Bits, Field, Writing, NilBase}
-use Rattle.gh_poll.specs.Barrier.{held_then, with_held}
-use Rattle.gh_mutator.specs.Faults.{is_load}
-use Rattle.gh_mutator.specs.Fields.{has_field, is_pointer_by}
-use Rattle.gh_poll.specs.Local.{is_mark}
-use Rattle.gh_poll.specs.Poll.{Polling}
-use Rattle.gh_poll.specs.Registers.{IsNear, IsRegister}
-use Rattle.gh_mutator.specs.Sound.{SoundStore, SoundStoreStage, StoreRoom}
-use Rattle.gh_mutator.specs.Step.{ends, goes_on}
-use Rattle.gh_mutator.specs.Store.{after_write, asks, at_stage, begins, by_kind, held_behind, step, step_at}
+use Rattle.gh_mutator.specs.Store.{after_write, at_stage, by_kind, held_behind, step, step_at}
 use Rattle.gh_mutator.proofs.ClassFacts.{ClassLaws}
 use Rattle.gh_mutator.proofs.Fields.{field_there}
 use Rattle.gh_mutator.proofs.Opens.{write_opens}
@@ -42,7 +21,7 @@ module _ (l : Layout) (own : Local) (held : Value) (x : Store) (register : IsReg
   step_sound_at : ClassLaws → (s : StoreStage) (found : ℕ) → SoundStoreStage x.k s → StepSound (SoundStore l.pages) l.pages (step_at l own held x s found)
   step_sound_at laws NilBase found h = record { next = tt; sets = tt }
   step_sound_at laws Page found h = go (has_field x.k found) refl where
-    go : (b : Bool) → has_field x.k found ≡ b → StepSound (SoundStore l.pages) l.pages (cond b (goes_on (at_stage x Bits)) (ends (answer.Fault fault.Field)))
+    go : (b : Bool) → has_field x.k found ≡ b → StepSound (SoundStore l.pages) l.pages (cond b (goes_on (at_stage x Bits)) (ends (Answer.Fault Fault.Field)))
     go true e = record { next = sound_at Bits (field_there laws x.k found e); sets = tt }
     go false e = record { next = tt; sets = tt }
   step_sound_at laws Bits found h = go (is_pointer_by l (x.at + x.k) found) where
@@ -62,7 +41,7 @@ module _ (l : Layout) (k : (z : Layout) → IsRoutine z (write.listing z)) (p : 
   room_at : (s : StoreStage) (found : ℕ) → found < 2 ^ 64 → StoreRoom l p s → GoesTo (RoomThen (held_behind l p.local.held s found)) (step_at l p.local held x s found).then
   room_at NilBase found few h = tt
   room_at Page found few h = go (has_field x.k found) where
-    go : (b : Bool) → GoesTo (RoomThen p.local.held) (cond b (goes_on (at_stage x Bits)) (ends (answer.Fault fault.Field))).then
+    go : (b : Bool) → GoesTo (RoomThen p.local.held) (cond b (goes_on (at_stage x Bits)) (ends (Answer.Fault Fault.Field))).then
     go true = h
     go false = tt
   room_at Bits found few h = go (is_pointer_by l (x.at + x.k) found) where
@@ -102,7 +81,7 @@ writes_on _ = true
 abbrev pub Left : (marking : Bool) → (most : ℕ) → Then Store → Type 0
 Left marking most then = GoesTo (λ (y : Store). (writes_on y.stage ≡ true) × (left marking y + 1 ≤ most)) then
 
-page_nears : (marking : Bool) (x : Store) (b : Bool) → Left marking (then_left marking + 2) (cond b (goes_on (at_stage x Bits)) (ends (answer.Fault fault.Field))).then
+page_nears : (marking : Bool) (x : Store) (b : Bool) → Left marking (then_left marking + 2) (cond b (goes_on (at_stage x Bits)) (ends (Answer.Fault Fault.Field))).then
 page_nears marking x b = grind arith
 
 module _ (ends_so : WritingEnds) (l : Layout) (own : Local) (held : Value) (x : Store) where
@@ -122,12 +101,6 @@ module _ (ends_so : WritingEnds) (l : Layout) (own : Local) (held : Value) (x : 
 pub nears : WritingEnds → (l : Layout) (own : Local) (held : Value) (x : Store) (found : ℕ) → writes_on x.stage ≡ true → (1 ≤ left (is_mark own.view.phase) x) × Left (is_mark own.view.phase) (left (is_mark own.view.phase) x) (step l own held x found).then
 nears ends_so l own held x found on = grind (arith, nears_at)
 
-pub begins_on : (g b k v : ℕ) (base : Value) → writes_on (begins g b k v base).stage ≡ true
-begins_on g b k v base = grind arith
-
-pub begins_left : (marking : Bool) (g b k v : ℕ) (base : Value) → left marking (begins g b k v base) ≤ cond marking 10 3
-begins_left marking g b k v base = grind arith
-
 -- ---- a fault has loaded words alone
 
 abbrev pub may_fault_at : StoreStage → Bool
@@ -144,6 +117,3 @@ faults l own held x found = record { here = grind arith; keeps = grind arith; be
 -- what is held stays until its write
 pub holds_still : (l : Layout) (held : Option Held) (s : StoreStage) (found : ℕ) → may_fault_at s ≡ true → held_behind l held s found ≡ held
 holds_still l held s found e = grind arith
-
-pub loads : (l : Layout) (held : Value) (x : Store) → may_fault x ≡ true → is_load (asks l held x) ≡ true
-loads l held x e = grind arith

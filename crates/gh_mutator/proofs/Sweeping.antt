@@ -1,24 +1,19 @@
 -- A processor runs the sweeps of its search for a slot, and no others.
 use Rattle.std.proofs.Common.{◌≡◌, ℕ, Bool, true, false, cond, List, Option, Some, None, refl, ap, ◌∙◌, arith}
-use Rattle.gh_base.specs.declared.operation.Op.TheVariants as op
+use Rattle.gh_mutator.proofs.Vocabulary.{after_gc, after_leave, after_poll, after_search, asks_at, Assist, begins, cache_span, follows, Found, has_left_at, Layout, Leaving, NewStage, Op, Place, Polling, Processor, processor_kind, register_of, Search, searches, Seeking, seeking, Shape, takes_at, Task, Then, Wait, Waiting, Want, Wanted, wanted_of}
 use Rattle.gh_alloc.specs.Search as search
-use Rattle.gh_sweep.specs.Listing.{is_busy, opening, Sweeping}
+use Rattle.gh_sweep.specs.Listing.{is_busy, Sweeping}
 use Rattle.gh_sweep.specs.Listing as sweep
 use Rattle.gh_sweep.specs.Running.{on_from, RunsSweeps}
-use Rattle.gh_mutator.specs.declared.task.Task.TheVariants as task
-use Rattle.gh_mutator.specs.Deeds.{processor_kind}
 use Rattle.gh_mutator.specs.Global as global
 use Rattle.gh_poll.specs.Leave as leave
 use Rattle.gh_mutator.specs.Load as load
 use Rattle.gh_mutator.specs.New as new
-use Rattle.gh_mutator.specs.New.{searches, seeking, wanted_of}
 use Rattle.gh_poll.specs.Poll as poll
-use Rattle.gh_poll.specs.Poll.{Polling}
 use Rattle.gh_mutator.specs.Register as register
 use Rattle.gh_mutator.specs.Store as store
 use Rattle.gh_mutator.specs.Sweeping.{IsSearching, SearchesAt, SweepsAreRunOn, sweep_at, sweep_in, sweep_new}
 use Rattle.gh_poll.specs.Wait as wait
-use Rattle.gh_mutator.proofs.Vocabulary.{Assist, after_gc, after_leave, after_poll, after_search, asks_at, begins, cache_span, follows, Found, has_left_at, Layout, Leaving, NewStage, Op, Place, Processor, register_of, Search, Seeking, Shape, takes_at, Task, Then, Wait, Waiting, Wanted, Want}
 
 seeking_none : (m : Processor) (w : Wanted) → search.sweep_in (seeking m w) ≡ None
 seeking_none m w = grind arith
@@ -28,7 +23,7 @@ search_then shapes m w waited q out e = grind arith
 
 -- While it sweeps.
 on_at : (l : Layout) → ((z : Layout) → RunsSweeps (search.asks z) (search.goes z) (λ (q : Seeking). z) search.sweep_generation search.sweep_in) → (shapes : List Shape) (m : Processor) (sw : Sweeping) (q : Task) → sweep_at q ≡ Some sw → is_busy sw.stage ≡ true → (asks_at l m q ≡ sweep.asks l sw) × ((found : ℕ) → sweep_in (takes_at l shapes m q found) ≡ on_from sw found)
-on_at l k shapes m sw (task.New x) is busy = by x.stage is where
+on_at l k shapes m sw (Task.New x) is busy = by x.stage is where
   by : (n : NewStage) → sweep_new n ≡ Some sw → (new.asks_at l m n ≡ sweep.asks l sw) × ((found : ℕ) → sweep_in (new.takes_at l shapes m x.wanted n found) ≡ on_from sw found)
   by (Search waited y) is =
       let o = (k l).on y sw is busy in
@@ -55,25 +50,25 @@ leave_none m x out = grind arith
 
 module _ (l : Layout) (shapes : List Shape) (m : Processor) (found : ℕ) where
   others_at : (q : Task) → m.task ≡ q → sweep_at q ≡ None → (IsSearching q → ⊥) → sweep_in (takes_at l shapes m q found) ≡ None
-  others_at task.Idle is none not = ap sweep_at is
-  others_at task.Left is none not = ap sweep_at is
-  others_at (task.Load x) is none not = follows_none task.Load (λ s. refl) (load.step l x found).then
-  others_at (task.Store x) is none not = follows_none task.Store (λ s. refl) (store.step l m.poll.local (register_of m x.g x.v) x found).then
-  others_at (task.Global x) is none not = follows_none task.Global (λ s. refl) (global.step l (register_of m x.g x.r) x found).then
-  others_at (task.Register x) is none not = follows_none task.Register (λ s. refl) (register.step (register_of m x.g (register.read_of x)) x).then
-  others_at (task.New x) is none not = by x.stage not where
+  others_at Task.Idle is none not = ap sweep_at is
+  others_at Task.Left is none not = ap sweep_at is
+  others_at (Task.Load x) is none not = follows_none Task.Load (λ s. refl) (load.step l x found).then
+  others_at (Task.Store x) is none not = follows_none Task.Store (λ s. refl) (store.step l m.poll.local (register_of m x.g x.v) x found).then
+  others_at (Task.Global x) is none not = follows_none Task.Global (λ s. refl) (global.step l (register_of m x.g x.r) x found).then
+  others_at (Task.Register x) is none not = follows_none Task.Register (λ s. refl) (register.step (register_of m x.g (register.read_of x)) x).then
+  others_at (Task.New x) is none not = by x.stage not where
     by : (n : NewStage) → (SearchesAt n → ⊥) → sweep_in (new.takes_at l shapes m x.wanted n found) ≡ None
     by n not = grind arith
-  others_at (task.Gc g x) is none not = gc_none m g (wait.goes l (wait.waiting x m.poll) found) (wait.gives l (wait.waiting x m.poll) found)
-  others_at task.Poll is none not = poll_none m (poll.goes l m.poll found) (poll.gives l m.poll found)
-  others_at (task.End g) is none not = refl
-  others_at (task.Leave x) is none not = leave_none m (leave.goes x found) (leave.gives x found)
+  others_at (Task.Gc g x) is none not = gc_none m g (wait.goes l (wait.waiting x m.poll) found) (wait.gives l (wait.waiting x m.poll) found)
+  others_at Task.Poll is none not = poll_none m (poll.goes l m.poll found) (poll.gives l m.poll found)
+  others_at (Task.End g) is none not = refl
+  others_at (Task.Leave x) is none not = leave_none m (leave.goes x found) (leave.gives x found)
 
 -- And where it begins an operation it begins none.
 begun_none : (shapes : List Shape) (z : Layout) (m : Processor) (o : Op) → sweep_in m ≡ None → sweep_in ((processor_kind shapes z).begins m o) ≡ None
 begun_none shapes z m o none = by (has_left_at m.task) where
   op_none : (o : Op) → sweep_in (begins shapes m o) ≡ None
-  op_none (op.New g d t) = seeking_none m (wanted_of shapes g d t)
+  op_none (Op.New g d t) = seeking_none m (wanted_of shapes g d t)
   op_none _ = refl
 
   by : (b : Bool) → sweep_in (cond b m (begins shapes m o)) ≡ None

@@ -1,7 +1,7 @@
 -- A machine that is told words, from its first word or to its last.
 use Rattle.std.proofs.Common.{◌≡◌, ℕ, zero, suc, ◌≤◌, Bool, true, false, eqb, refl, ap, arith}
 use Rattle.std.proofs.lemmas.Bool.{eqb-true}
-use Rattle.std.proofs.lemmas.Bool.Decides.{nat_tests}
+use Rattle.gh_mutator.proofs.Vocabulary.{nat_tests}
 use Rattle.gh_base.specs.Routines.{Listing, told}
 
 -- the first word is told first

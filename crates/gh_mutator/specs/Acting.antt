@@ -1,6 +1,7 @@
 -- Each operation acts once, with a point or without, whatever the processor finds.
 use Rattle.std.specs.Prelude.{◌≡◌, ℕ, true, false, List, Option, Some, None}
-use Rattle.gh_mutator.specs.Vocabulary.{Layout, Op, Shape, Processor, Task}
+use Rattle.gh_mutator.specs.Vocabulary.{Layout, Op, Shape, Task}
+use Rattle.gh_mutator.specs.Processing.{Processor}
 use Rattle.gh_mutator.specs.Listing.{Act, acts, begins_at, is_busy_at, op_at, takes}
 
 -- from the operation that is to act before a step to that behind it: the step acts for it, or leaves it so

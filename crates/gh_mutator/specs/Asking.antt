@@ -1,10 +1,9 @@
 -- The making of an object asks for a cycle once, exactly where it loads a trigger that is reached.
 use Rattle.std.specs.Prelude.{◌≡◌, ℕ, List}
-use Rattle.gh_alloc.specs.declared.place.PlaceStage.TheVariants as making
+use Rattle.gh_mutator.specs.Vocabulary.{Layout, NewStage, Place, PlaceStage, Shape, Task, Want}
 use Rattle.gh_alloc.specs.Trigger as trigger
-use Rattle.gh_mutator.specs.declared.task.Task.TheVariants as task
 use Rattle.gh_mutator.specs.Listing.{takes}
-use Rattle.gh_mutator.specs.Vocabulary.{Layout, NewStage, Place, Processor, Shape, Task, Want}
+use Rattle.gh_mutator.specs.Processing.{Processor}
 
 -- it has made an object, and seen that the heap reached the trigger
 abbrev pub SawReachedAt : NewStage → Type 0
@@ -12,7 +11,7 @@ SawReachedAt (Want n) = Unit {0}
 SawReachedAt _ = ⊥
 
 abbrev pub SawReached : Task → Type 0
-SawReached (task.New x) = SawReachedAt x.stage
+SawReached (Task.New x) = SawReachedAt x.stage
 SawReached _ = ⊥
 
 -- By a step that finds this a `new` tells that the heap, which has so many bytes with its object, has reached the trigger; and by one before that it has added the object's bytes to them, while marking was off.
@@ -21,7 +20,7 @@ SeesReachedAt found bytes (Place p) = trigger.SeesReached p found bytes
 SeesReachedAt found bytes _ = ⊥
 
 abbrev pub SeesReached : Task → (found bytes : ℕ) → Type 0
-SeesReached (task.New x) found bytes = SeesReachedAt found bytes x.stage
+SeesReached (Task.New x) found bytes = SeesReachedAt found bytes x.stage
 SeesReached _ found bytes = ⊥
 
 abbrev pub CountsUpToAt : (found bytes : ℕ) → NewStage → Type 0
@@ -29,16 +28,16 @@ CountsUpToAt found bytes (Place p) = trigger.CountsUpTo p found bytes
 CountsUpToAt found bytes _ = ⊥
 
 abbrev pub CountsUpTo : Task → (found bytes : ℕ) → Type 0
-CountsUpTo (task.New x) found bytes = CountsUpToAt found bytes x.stage
+CountsUpTo (Task.New x) found bytes = CountsUpToAt found bytes x.stage
 CountsUpTo _ found bytes = ⊥
 
 -- it is about to load the trigger, where the heap has so many bytes
 abbrev pub ComparesAt : (bytes : ℕ) → NewStage → Type 0
-ComparesAt bytes (Place p) = p.stage ≡ making.LoadTrigger bytes
+ComparesAt bytes (Place p) = p.stage ≡ PlaceStage.LoadTrigger bytes
 ComparesAt bytes _ = ⊥
 
 abbrev pub Compares : Task → (bytes : ℕ) → Type 0
-Compares (task.New x) bytes = ComparesAt bytes x.stage
+Compares (Task.New x) bytes = ComparesAt bytes x.stage
 Compares _ bytes = ⊥
 
 pub record ProcessorsAskAtTheTrigger : Type 0 where

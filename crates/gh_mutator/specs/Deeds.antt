@@ -1,13 +1,11 @@
 -- The processor as a kind of actor, and its deeds: which operations have a point, which step is it, and what it means in the heap that never frees.
 use Rattle.std.specs.Prelude.{◌≡◌, Bool, true, false, if◌then◌else◌, List, ◌∷◌, Option, Some, None}
-use Rattle.gh_mutator.specs.Vocabulary.{Layout, Op, Shape, Answer, Processor, Task}
+use Rattle.gh_mutator.specs.Vocabulary.{Answer, Layout, Op, Shape, Task}
+use Rattle.gh_mutator.specs.Processing.{Processor}
 use Rattle.gh_base.specs.declared.machine.Entry.{Entry}
-use Rattle.gh_base.specs.declared.operation.Op.TheVariants as op
 use Rattle.gh_base.specs.Lists.{Kind}
 use Rattle.gh_base.specs.Orders.{Deeds, DeedsFit, Meaning, before_step, model_after}
-use Rattle.gh_base.specs.declared.value.Answer.TheVariants as answer
 use Rattle.gh_model.specs.Ever.{Ever, answer_of, ever_after, opening_ever}
-use Rattle.gh_mutator.specs.declared.task.Task.TheVariants as task
 use Rattle.gh_mutator.specs.Listing.{Act, acts, asks, begins, gives, is_busy_at, op_at, takes}
 use Rattle.gh_mutator.specs.Processor.{opening_processor}
 use Rattle.gh_mutator.specs.Serving.{has_left_at}
@@ -24,8 +22,8 @@ processor_kind shapes l = record {
 
 -- Statements and the ends of goroutines have points. A poll and a leave have none.
 abbrev pub has_point : Op → Bool
-has_point op.Poll = false
-has_point op.Leave = false
+has_point Op.Poll = false
+has_point Op.Leave = false
 has_point _ = true
 
 -- the operation, if it has a point
@@ -40,8 +38,8 @@ point_of (Some x) = if has_point x.op then Some x else None
 
 -- what an operation with a point is answered
 abbrev pub given_at : Task → Option Answer → Option Answer
-given_at task.Poll given = None
-given_at (task.Leave x) given = None
+given_at Task.Poll given = None
+given_at (Task.Leave x) given = None
 given_at _ given = given
 
 abbrev pub deeds : Layout → List Shape → Deeds Processor Op Act Answer
@@ -55,7 +53,7 @@ deeds l shapes = record {
 
 -- what an operation is answered where it acts
 abbrev pub answer_at : List Shape → Ever → Act → Answer
-answer_at shapes e x = if x.full then answer.Full else answer_of shapes e x.op
+answer_at shapes e x = if x.full then Answer.Full else answer_of shapes e x.op
 
 abbrev pub acted : List Shape → Ever → Option Act → Ever
 acted shapes e None = e

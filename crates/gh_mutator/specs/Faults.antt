@@ -1,17 +1,11 @@
 -- What a statement leaves that is answered a fault.
 use Rattle.std.specs.Prelude.{◌≡◌, ℕ, suc, ◌≤◌, Bool, true, false, Some}
-use Rattle.gh_base.specs.declared.cell.Ask.{Ask}
+use Rattle.gh_mutator.specs.Vocabulary.{Answer, Ask, Cause, Idle, Layout, Op, told}
 use Rattle.gh_base.specs.declared.cell.Ask.TheVariants.{Load}
-use Rattle.gh_base.specs.declared.layout.Layout.{Layout}
-use Rattle.gh_base.specs.declared.operation.Op.{Op}
-use Rattle.gh_base.specs.declared.value.Answer.{Answer}
 use Rattle.gh_base.specs.declared.value.Answer.TheVariants.{Fault}
-use Rattle.gh_base.specs.declared.value.Fault.{Fault as Cause}
 use Rattle.gh_mutator.specs.Processing.{Processor}
-use Rattle.gh_mutator.specs.declared.task.Task.TheVariants.{Idle}
 use Rattle.gh_mutator.specs.Mutating.{asks, begins, gives, listing, marks_after, Mutating}
 use Rattle.gh_mutator.specs.Processor.{at_task}
-use Rattle.gh_base.specs.Routines.{told}
 
 abbrev pub is_load : Ask → Bool
 is_load (Load cell) = true

@@ -1,16 +1,8 @@
 -- The processor as a machine, which keeps the shapes of the types beside its state, and counts the statements that it has answered.
 use Rattle.std.specs.Prelude.{ℕ, ◌+◌, ◌-◌, ◌^◌, min, Bool, true, false, not, ◌&&◌, List, Option, Some, None}
-use Rattle.gh_base.specs.declared.cell.Ask.{Ask}
-use Rattle.gh_base.specs.declared.layout.Layout.{Layout}
-use Rattle.gh_base.specs.declared.operation.Op.{Op}
-use Rattle.gh_base.specs.declared.operation.Op.TheVariants as op
-use Rattle.gh_base.specs.declared.shape.Shape.{Shape}
-use Rattle.gh_base.specs.declared.value.Answer.{Answer}
-use Rattle.gh_base.specs.Routines.{Listing}
+use Rattle.gh_mutator.specs.Vocabulary.{Answer, Ask, is_number_value, Layout, Listing, marking_at, Op, passes_by, Shape}
 use Rattle.gh_mutator.specs.Processing.{Processor}
 use Rattle.gh_mutator.specs.Listing.{acts as acts_by, Act, asks as asks_of, begins as begins_by, gives as gives_by, is_busy_at, takes}
-use Rattle.gh_poll.specs.Local.{marking_at, passes as passes_by}
-use Rattle.gh_poll.specs.Registers.{is_number_value}
 use Rattle.gh_mutator.specs.Processor.{opening_processor, register_of}
 use Rattle.gh_mutator.specs.Serving.{has_left_at, statement_answer}
 
@@ -58,9 +50,9 @@ passes m found = not (has_left_at m.processor.task) && passes_by m.processor.pol
 
 -- the statement touches registers alone, and no word
 abbrev pub is_of_registers : Op → Bool
-is_of_registers (op.Int g d n) = true
-is_of_registers (op.Move g d s) = true
-is_of_registers (op.Nil g d) = true
+is_of_registers (Op.Int g d n) = true
+is_of_registers (Op.Move g d s) = true
+is_of_registers (Op.Nil g d) = true
 is_of_registers _ = false
 
 -- Where nothing is begun: it has not left, and the operation is such a statement.
@@ -69,8 +61,8 @@ sets m o = not (has_left_at m.processor.task) && is_of_registers o
 
 -- Where nothing is begun: it has not left, and the operation is the load of a global, or the store of a pointer into one while marking is off, as it knows.
 abbrev pub is_direct_at : Processor → Op → Bool
-is_direct_at m (op.GetGlobal g d k) = not (has_left_at m.task)
-is_direct_at m (op.SetGlobal g k v) = not (has_left_at m.task) && not (marking_at m.poll) && not (is_number_value (register_of m g v))
+is_direct_at m (Op.GetGlobal g d k) = not (has_left_at m.task)
+is_direct_at m (Op.SetGlobal g k v) = not (has_left_at m.task) && not (marking_at m.poll) && not (is_number_value (register_of m g v))
 is_direct_at m _ = false
 
 abbrev pub is_direct : Mutating → Op → Bool

@@ -1,33 +1,23 @@
 -- A new object: the search for its slot, the wait for a cycle where there is none, the search once more, the making of the object in its slot, and behind that the request for a cycle where the heap then reaches the trigger, or the assist while marking is on. Its steps change what the processor alone knows and the number of objects too, so they are steps of the processor.
 use Rattle.std.specs.Prelude.{ℕ, ◌+◌, ◌*◌, ◌/◌, Bool, true, false, if◌then◌else◌, List, slice_set, Option, Some, None}
-use Rattle.gh_mutator.specs.Vocabulary.{Ask, Assist, Assisting, Layout, Op, Polling, Shape, Answer, Name, shape_at, SizeClass, slot_words, Found, At, NoRoom, Sought, PlaceStage, Seeking, Placing, NewStage, Search, Wait, Place, Want, Waiting, Wanted, Processor, Task}
+use Rattle.gh_mutator.specs.Vocabulary.{Answer, Ask, Assist, Assisting, At, Cell, Found, Large, Layout, marking_at, Name, NewStage, NoRoom, Op, Place, PlaceStage, Placing, Polling, Search, Seeking, Shape, shape_at, size_class_of, SizeClass, slot_words, Small, Sought, Task, Value, Wait, Waiting, Want, Wanted, with_payment}
+use Rattle.gh_mutator.specs.Processing.{Processor}
 use Rattle.gh_assist.specs.Listing as assist
-use Rattle.gh_base.specs.declared.cell.Ask.TheVariants as ask
-use Rattle.gh_base.specs.declared.cell.Cell.TheVariants as cell
-use Rattle.gh_base.specs.declared.operation.Op.TheVariants as op
 use Rattle.gh_base.specs.declared.pack.SpanHead.{SpanHead}
-use Rattle.gh_base.specs.declared.value.Answer.TheVariants as answer
-use Rattle.gh_base.specs.declared.value.Value.TheVariants as value
-use Rattle.gh_class.specs.declared.class.SizeClass.TheVariants as size
-use Rattle.gh_class.specs.Classes.{size_class_of}
-use Rattle.gh_alloc.specs.declared.sought.Sought.TheVariants.{Small, Large}
-use Rattle.gh_alloc.specs.declared.place.PlaceStage.TheVariants as making
 use Rattle.gh_alloc.specs.Place as place
 use Rattle.gh_alloc.specs.Search as search
-use Rattle.gh_mutator.specs.declared.task.Task.TheVariants as task
-use Rattle.gh_poll.specs.Local.{marking_at, with_payment}
 use Rattle.gh_mutator.specs.Processor.{at_poll, at_task, cache_span, cached_for, made_by, set_register}
 use Rattle.gh_poll.specs.Wait as wait
 
 abbrev pub op_of : Wanted → Op
-op_of w = op.New w.g w.d w.t
+op_of w = Op.New w.g w.d w.t
 
 -- What is wanted.
 
 -- what is sought for an object of a size class, whose slot has so many words
 abbrev pub sought_by : SizeClass → (noscan : Bool) → (slot : ℕ) → Sought
-sought_by (size.Small c) noscan slot = Small (record { class = c; noscan = noscan })
-sought_by size.Large noscan slot = Large (slot / 1024) noscan
+sought_by (SizeClass.Small c) noscan slot = Small (record { class = c; noscan = noscan })
+sought_by SizeClass.Large noscan slot = Large (slot / 1024) noscan
 
 -- what is sought for an object of such a shape: a slot of its span class, or pages of its own
 abbrev pub sought_for : Shape → Sought
@@ -44,7 +34,7 @@ next_of m w = record { g = w.g; k = made_by m w.g }
 -- what the first page of a large object's span says while it is being made
 abbrev pub own_span : (seat generation : ℕ) → Sought → Option SpanHead
 own_span seat generation (Small c) = None
-own_span seat generation (Large pages noscan) = Some (record { class = size.Large; noscan = noscan; pages = pages; owner = seat + 1; number = generation })
+own_span seat generation (Large pages noscan) = Some (record { class = SizeClass.Large; noscan = noscan; pages = pages; owner = seat + 1; number = generation })
 
 -- the search for the slot
 abbrev pub seeking : Processor → Wanted → Seeking
@@ -56,27 +46,27 @@ placing shapes m w a = place.opening (shape_at shapes w.t) a w.slot (next_of m w
 
 -- the object is made
 abbrev pub is_made : PlaceStage → Bool
-is_made (making.Give g) = true
-is_made making.Count = true
-is_made (making.LoadTrigger bytes) = true
-is_made (making.Ended wants) = true
+is_made (PlaceStage.Give g) = true
+is_made PlaceStage.Count = true
+is_made (PlaceStage.LoadTrigger bytes) = true
+is_made (PlaceStage.Ended wants) = true
 is_made _ = false
 
 -- the search for this object, the wait between two searches, the making of it, and the request for a cycle behind that
 abbrev pub searches : Wanted → (waited : Bool) → Seeking → Task
-searches w waited s = task.New (record { wanted = w; stage = Search waited s })
+searches w waited s = Task.New (record { wanted = w; stage = Search waited s })
 
 abbrev pub waits : Wanted → Waiting → Task
-waits w x = task.New (record { wanted = w; stage = Wait x.wait })
+waits w x = Task.New (record { wanted = w; stage = Wait x.wait })
 
 abbrev pub makes : Wanted → Placing → Task
-makes w p = task.New (record { wanted = w; stage = Place p })
+makes w p = Task.New (record { wanted = w; stage = Place p })
 
 abbrev pub wants : Wanted → Name → Task
-wants w n = task.New (record { wanted = w; stage = Want n })
+wants w n = Task.New (record { wanted = w; stage = Want n })
 
 abbrev pub assists : Wanted → Name → Assisting → Task
-assists w n x = task.New (record { wanted = w; stage = Assist n x })
+assists w n x = Task.New (record { wanted = w; stage = Assist n x })
 
 -- the assist for the bytes of the object's slot, with the buffer that is held
 abbrev pub assisting : Polling → Wanted → Assisting
@@ -88,7 +78,7 @@ abbrev pub asks_at : Layout → Processor → NewStage → Ask
 asks_at l m (Search waited s) = search.asks l s
 asks_at l m (Wait x) = wait.asks (wait.waiting x m.poll)
 asks_at l m (Place p) = place.asks l p
-asks_at l m (Want n) = ask.Or cell.Want 1
+asks_at l m (Want n) = Ask.Or Cell.Want 1
 asks_at l m (Assist n x) = assist.asks l x
 
 abbrev pub searches_at : NewStage → Bool
@@ -108,7 +98,7 @@ is_made_further_at _ = false
 -- the search has ended, and has found this: the object is made there; where there is no room, a cycle is waited for, and behind that the register is nil
 abbrev pub after_found : List Shape → Processor → Wanted → (waited : Bool) → Found → Processor
 after_found shapes m w waited (At a) = at_task m (makes w (placing shapes m w a))
-after_found shapes m w true NoRoom = at_task (set_register m w.g w.d value.Nil) task.Idle
+after_found shapes m w true NoRoom = at_task (set_register m w.g w.d Value.Nil) Task.Idle
 after_found shapes m w false NoRoom = at_task m (waits w (wait.opening m.poll))
 
 -- after a step of the search, which is then s and has found this, if it has ended
@@ -123,11 +113,11 @@ after_wait m w x (Some y) = at_task (at_poll m x.poll) (searches w true (seeking
 
 -- the object is there: it is counted, and the register names it
 abbrev pub made_object : Processor → Wanted → (a : ℕ) → Processor
-made_object m w a = set_register (record m { made = slice_set m.made w.g (made_by m w.g + 1) }) w.g w.d (value.Ref (a + 1))
+made_object m w a = set_register (record m { made = slice_set m.made w.g (made_by m w.g + 1) }) w.g w.d (Value.Ref (a + 1))
 
 -- the task once it is made and no cycle is asked for: while marking is on, as the processor knows, it assists
 abbrev pub made_then : Polling → Wanted → Name → Task
-made_then p w n = if marking_at p then assists w n (assisting p w) else task.Idle
+made_then p w n = if marking_at p then assists w n (assisting p w) else Task.Idle
 
 -- the task behind a step of the making, which is then x, and is over where it says whether a cycle is to be asked for
 abbrev pub made_task : Polling → Wanted → Placing → (asks : Option Bool) → Task
@@ -142,14 +132,14 @@ after_place m w made a p = at_task (if made then made_object m w a else m) (made
 -- after a step of the assist, which is then x, and has ended or not
 abbrev pub after_assist : Processor → Wanted → Name → Assisting → Option (Unit {0}) → Processor
 after_assist m w n x None = at_task m (assists w n x)
-after_assist m w n x (Some y) = at_task (at_poll m (with_payment m.poll x)) task.Idle
+after_assist m w n x (Some y) = at_task (at_poll m (with_payment m.poll x)) Task.Idle
 
 -- the processor after the step; the cached span is what the search says
 abbrev pub takes_at : Layout → List Shape → Processor → Wanted → NewStage → (found : ℕ) → Processor
 takes_at l shapes m w (Search waited s) found = after_search shapes (cache_span m w.sought (search.goes l s found).find.cached) w waited (search.goes l s found) (search.gives l s found)
 takes_at l shapes m w (Wait x) found = after_wait m w (wait.goes l (wait.waiting x m.poll) found) (wait.gives l (wait.waiting x m.poll) found)
 takes_at l shapes m w (Place p) found = after_place m w (place.makes_its_object p) p.at (place.goes p found)
-takes_at l shapes m w (Want n) found = at_task m task.Idle
+takes_at l shapes m w (Want n) found = at_task m Task.Idle
 takes_at l shapes m w (Assist n x) found = after_assist m w n (assist.goes l x found) (assist.gives l x found)
 
 -- the search behind the wait has found no room
@@ -160,7 +150,7 @@ refuses_behind_wait _ _ = false
 -- what the statement is answered, if it ends with the step
 abbrev pub answer_found : (waited : Bool) → Found → Option Answer
 answer_found waited (At a) = None
-answer_found true NoRoom = Some answer.Full
+answer_found true NoRoom = Some Answer.Full
 answer_found false NoRoom = None
 
 abbrev pub answer_search : (waited : Bool) → Option Found → Option Answer
@@ -168,18 +158,18 @@ answer_search waited None = None
 answer_search waited (Some out) = answer_found waited out
 
 abbrev pub answer_made : (marking : Bool) → Name → (asks : Option Bool) → Option Answer
-answer_made marking n (Some false) = if marking then None else Some (answer.Ref n)
+answer_made marking n (Some false) = if marking then None else Some (Answer.Ref n)
 answer_made marking n _ = None
 
 abbrev pub answer_assist : Name → Option (Unit {0}) → Option Answer
 answer_assist n None = None
-answer_assist n (Some y) = Some (answer.Ref n)
+answer_assist n (Some y) = Some (Answer.Ref n)
 
 abbrev pub gives_at : Layout → (marking : Bool) → NewStage → (found : ℕ) → Option Answer
 gives_at l marking (Search waited s) found = answer_search waited (search.gives l s found)
 gives_at l marking (Wait x) found = None
 gives_at l marking (Place p) found = answer_made marking p.name (place.gives p found)
-gives_at l marking (Want n) found = Some (answer.Ref n)
+gives_at l marking (Want n) found = Some (Answer.Ref n)
 gives_at l marking (Assist n x) found = answer_assist n (assist.gives l x found)
 
 -- the statement acts by the step, and whether it then found no room

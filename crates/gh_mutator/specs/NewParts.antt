@@ -1,6 +1,7 @@
 -- The parts of a step of a new object, as the code makes them: what the making says, and what the processor does then.
 use Rattle.std.specs.Prelude.{ℕ, ◌+◌, ◌*◌, ◌≤◌, Bool, true, false, if◌then◌else◌, Option, Some, None}
-use Rattle.gh_mutator.specs.Vocabulary.{Layout, Name, Placing, Processor, Wanted}
+use Rattle.gh_mutator.specs.Vocabulary.{Layout, Name, Placing, Wanted}
+use Rattle.gh_mutator.specs.Processing.{Processor}
 use Rattle.gh_alloc.specs.Place as place
 use Rattle.gh_mutator.specs.New.{made_object, made_then, wants}
 use Rattle.gh_mutator.specs.Processor.{at_task}

@@ -1,18 +1,13 @@
 -- A poll of a turn's own makes room for the store behind it: whatever words it is told, where it has ended marking is off, as the processor knows, or two entries go into the buffer that is held. A poll of a wait takes none.
 use Rattle.std.specs.Prelude.{◌≡◌, ℕ, true, false, List, Some}
-use Rattle.gh_base.specs.declared.operation.Op.TheVariants as op
+use Rattle.gh_mutator.specs.Vocabulary.{Ended, FindRoom, goes, has_entries, has_two, Layout, Op, Polling, PollStage, Shape, Task}
 use Rattle.gh_wbuf.specs.declared.find_room.RoomStage.{RoomStage}
 use Rattle.gh_wbuf.specs.declared.find_room.RoomStage.TheVariants.{GiveBack, Try, Ended as Found}
 use Rattle.gh_wbuf.specs.declared.try_buffer.Wish.TheVariants.{Room}
 use Rattle.gh_wbuf.specs.Trying.{is_busy as try_busy, SoundTryStage}
-use Rattle.gh_poll.specs.declared.poll.PollStage.{PollStage}
-use Rattle.gh_poll.specs.declared.poll.PollStage.TheVariants.{FindRoom, Ended}
-use Rattle.gh_mutator.specs.declared.task.Task.TheVariants as task
-use Rattle.gh_poll.specs.Barrier.{has_entries}
 use Rattle.gh_mutator.specs.Listing.{begins, is_busy_at, takes}
-use Rattle.gh_poll.specs.Poll.{goes, has_two}
 use Rattle.gh_mutator.specs.Sound.{has_room}
-use Rattle.gh_mutator.specs.Vocabulary.{Layout, Op, Polling, Processor, Shape, Task}
+use Rattle.gh_mutator.specs.Processing.{Processor}
 
 -- the search tries for room, and what it is to take had some; what it has found has some
 abbrev pub TriesForRoom : RoomStage → Type 0
@@ -33,8 +28,8 @@ pub record MakesRoom (p : Polling) : Type 0 where
 
 -- A processor that polls, or whose last operation was such a poll.
 abbrev pub RoomBehind : Polling → Task → Type 0
-RoomBehind p task.Idle = has_entries p ≡ true
-RoomBehind p task.Poll = MakesRoom p
+RoomBehind p Task.Idle = has_entries p ≡ true
+RoomBehind p Task.Poll = MakesRoom p
 RoomBehind p _ = ⊥
 
 abbrev pub HasRoomToStore : Processor → Type 0
@@ -47,7 +42,7 @@ LooksForRoom _ = ⊥
 
 pub record PollsMakeRoom : Type 0 where
   -- it is so from the begin of the poll on, until another operation begins
-  pub begins : (shapes : List Shape) (m : Processor) → HasRoomToStore (begins shapes m op.Poll)
+  pub begins : (shapes : List Shape) (m : Processor) → HasRoomToStore (begins shapes m Op.Poll)
   pub goes_on : (l : Layout) (shapes : List Shape) (m : Processor) (found : ℕ) → HasRoomToStore m → HasRoomToStore (takes l shapes m found)
   -- and then any operation may begin
   pub room : (m : Processor) (o : Op) → is_busy_at m.task ≡ false → HasRoomToStore m → has_room m o ≡ true

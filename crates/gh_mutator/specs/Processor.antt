@@ -1,16 +1,7 @@
 -- The processor's private state: what it alone knows, which is kept with its poll; the numbers of objects; and its task.
 use Rattle.std.specs.Prelude.{ℕ, Option, slice_index, replicate}
-use Rattle.gh_base.specs.declared.held.Held.{Held}
-use Rattle.gh_base.specs.declared.limits.TheConstants.{MOST_GOROUTINES}
-use Rattle.gh_base.specs.declared.value.Value.{Value}
-use Rattle.gh_alloc.specs.declared.sought.CachedSpan.{CachedSpan}
-use Rattle.gh_alloc.specs.declared.sought.Sought.{Sought}
+use Rattle.gh_mutator.specs.Vocabulary.{cached_at, CachedSpan, first_local, Held, Idle, MOST_GOROUTINES, Polling, register_at, resting, Sought, Task, Value, with_cached, with_held, with_register_value, with_value_if_any}
 use Rattle.gh_mutator.specs.Processing.{Processor}
-use Rattle.gh_mutator.specs.declared.task.Task.{Task}
-use Rattle.gh_mutator.specs.declared.task.Task.TheVariants.{Idle}
-use Rattle.gh_poll.specs.Barrier.{with_held}
-use Rattle.gh_poll.specs.Local.{cached_at, first_local, register_at, with_cached, with_register_value, with_value_if_any}
-use Rattle.gh_poll.specs.Poll.{Polling, resting}
 
 abbrev pub at_task : Processor → Task → Processor
 at_task m t = record m { task = t }

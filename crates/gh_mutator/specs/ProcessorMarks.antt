@@ -1,23 +1,13 @@
 -- What is known of the whole processor while marking is on, by its task, and what each step of its own is where it polls, waits for a cycle, or leaves.
 use Rattle.std.specs.Prelude.{◌≡◌, ◌≢◌, ℕ, Bool, true, false, List, Option, Some, None}
-use Rattle.gh_alloc.specs.declared.place.PlaceStage.{PlaceStage}
-use Rattle.gh_alloc.specs.declared.place.PlaceStage.TheVariants as place_stage
-use Rattle.gh_alloc.specs.Place.{Placing}
+use Rattle.gh_mutator.specs.Vocabulary.{Assist, Assisting, cell_of, GlobalStage, has_entries, is_number_value, Local, Mark, NewStage, Op, Place, PlaceStage, Placing, Polling, register_at, Search, Shape, Store, StoreStage, Task, Wait, waiting, Want}
 use Rattle.gh_assist.specs.Facts as assist_facts
 use Rattle.gh_barrier.specs.Facts as write_facts
 use Rattle.gh_barrier.specs.Listing.{Writing}
-use Rattle.gh_phase.specs.declared.view.RunPhase.TheVariants.{Mark}
-use Rattle.gh_mutator.specs.declared.global.GlobalStage.TheVariants as global_stage
-use Rattle.gh_mutator.specs.declared.store.StoreStage.TheVariants as store_stage
-use Rattle.gh_mutator.specs.declared.task.Task.TheVariants as task
-use Rattle.gh_poll.specs.Barrier.{has_entries}
-use Rattle.gh_poll.specs.Registers.{is_number_value}
 use Rattle.gh_mutator.specs.Listing.{asks, begins, takes}
-use Rattle.gh_poll.specs.Local.{register_at}
 use Rattle.gh_poll.specs.MarkFacts.{IsBetween, holding_only, KnowsCycle, KnowsNumber, KnowsStacks, LeaveFacts, PollFacts, WaitFacts}
-use Rattle.gh_mutator.specs.MarkVocabulary.{Cycle, Good, Hands, IsParked, KnowsObjects, Local, Others, Shared, Steps, cell_of, nothing, stage_of}
-use Rattle.gh_mutator.specs.Vocabulary.{Assist, Assisting, GlobalStage, NewStage, Op, Place, Polling, Processor, Search, Shape, Store, StoreStage, Task, Wait, Want}
-use Rattle.gh_poll.specs.Wait.{waiting}
+use Rattle.gh_mutator.specs.MarkVocabulary.{Cycle, Good, Hands, IsParked, KnowsObjects, Others, Shared, Steps, nothing, stage_of}
+use Rattle.gh_mutator.specs.Processing.{Processor}
 
 -- a write behind the write barrier, beside what is known between two polls
 pub record IsWriting (z : Cycle) (a : ℕ) (s : Shared) (local : Local) (w : Writing) : Type 0 where
@@ -27,7 +17,7 @@ pub record IsWriting (z : Cycle) (a : ℕ) (s : Shared) (local : Local) (w : Wri
 
 -- the slot that is marked, and in which no object is made yet
 abbrev pub reserved_at : (at : ℕ) → PlaceStage → Option ℕ
-reserved_at at place_stage.Alloc = Some at
+reserved_at at PlaceStage.Alloc = Some at
 reserved_at at _ = None
 
 -- an object that is marked before it is made
@@ -54,27 +44,27 @@ module _ (z : Cycle) (a : ℕ) (s : Shared) (p : Polling) where
 
   -- a store has room for its write barrier until it writes, by which word of the bitmap it finds; without the barrier it writes numbers alone
   abbrev pub StoreFacts : Store → StoreStage → Type 0
-  StoreFacts x store_stage.Page = IsBetween z a s p.local × (has_entries p ≡ true)
-  StoreFacts x store_stage.Bits = IsBetween z a s p.local × (has_entries p ≡ true)
-  StoreFacts x store_stage.Field = IsBetween z a s p.local × (p.local.view.phase ≡ Mark → is_number_value (register_at p x.g x.v) ≡ true)
-  StoreFacts x (store_stage.Writing w) = IsWriting z a s p.local w
-  StoreFacts x store_stage.NilBase = IsBetween z a s p.local
+  StoreFacts x StoreStage.Page = IsBetween z a s p.local × (has_entries p ≡ true)
+  StoreFacts x StoreStage.Bits = IsBetween z a s p.local × (has_entries p ≡ true)
+  StoreFacts x StoreStage.Field = IsBetween z a s p.local × (p.local.view.phase ≡ Mark → is_number_value (register_at p x.g x.v) ≡ true)
+  StoreFacts x (StoreStage.Writing w) = IsWriting z a s p.local w
+  StoreFacts x StoreStage.NilBase = IsBetween z a s p.local
 
   -- a global is written without the barrier where marking is off, as the processor knows
   abbrev pub GlobalFacts : GlobalStage → Type 0
-  GlobalFacts global_stage.Store = IsBetween z a s p.local × (p.local.view.phase ≢ Mark)
-  GlobalFacts (global_stage.Writing w) = IsWriting z a s p.local w
+  GlobalFacts GlobalStage.Store = IsBetween z a s p.local × (p.local.view.phase ≢ Mark)
+  GlobalFacts (GlobalStage.Writing w) = IsWriting z a s p.local w
   GlobalFacts _ = IsBetween z a s p.local
 
   abbrev pub TaskFacts : Task → Type 0
-  TaskFacts task.Poll = PollFacts z a s p
-  TaskFacts (task.New x) = NewFacts x.stage
-  TaskFacts (task.Store x) = StoreFacts x x.stage
-  TaskFacts (task.Global x) = GlobalFacts x.stage
-  TaskFacts (task.Gc g x) = WaitFacts z a s (waiting x p)
-  TaskFacts (task.Leave x) = (p.local.held ≡ None) × LeaveFacts z a s x.stage
+  TaskFacts Task.Poll = PollFacts z a s p
+  TaskFacts (Task.New x) = NewFacts x.stage
+  TaskFacts (Task.Store x) = StoreFacts x x.stage
+  TaskFacts (Task.Global x) = GlobalFacts x.stage
+  TaskFacts (Task.Gc g x) = WaitFacts z a s (waiting x p)
+  TaskFacts (Task.Leave x) = (p.local.held ≡ None) × LeaveFacts z a s x.stage
   -- what it knew of the phase is of no account any more
-  TaskFacts task.Left = (p.local.held ≡ None) × Hands a s nothing
+  TaskFacts Task.Left = (p.local.held ≡ None) × Hands a s nothing
   TaskFacts _ = IsBetween z a s p.local
 
 pub record MarkFacts (z : Cycle) (a : ℕ) (s : Shared) (m : Processor) : Type 0 where
@@ -88,10 +78,10 @@ new_polls (Wait x) = true
 new_polls _ = false
 
 abbrev pub only_polls : Task → Bool
-only_polls task.Poll = true
-only_polls (task.New x) = new_polls x.stage
-only_polls (task.Gc g x) = true
-only_polls (task.Leave x) = true
+only_polls Task.Poll = true
+only_polls (Task.New x) = new_polls x.stage
+only_polls (Task.Gc g x) = true
+only_polls (Task.Leave x) = true
 only_polls _ = false
 
 -- The processor stands still at a stop, or is gone, and has nothing in hand, where a cycle begins.
@@ -107,7 +97,7 @@ pub record MarksByMoves : Type 0 where
   -- a cycle begins
   pub opens : (z : Cycle) (a : ℕ) (s : Shared) (m : Processor) → StandsWithNothing z a s m → MarkFacts z a s m
   -- an idle processor begins to poll, to wait, or to leave
-  pub begins : (shapes : List Shape) (z : Cycle) (a : ℕ) (s : Shared) (m : Processor) (o : Op) → m.task ≡ task.Idle → only_polls (begins shapes m o).task ≡ true → MarkFacts z a s m → MarkFacts z a s (begins shapes m o)
+  pub begins : (shapes : List Shape) (z : Cycle) (a : ℕ) (s : Shared) (m : Processor) (o : Op) → m.task ≡ Task.Idle → only_polls (begins shapes m o).task ≡ true → MarkFacts z a s m → MarkFacts z a s (begins shapes m o)
   pub own_step : (shapes : List Shape) (z : Cycle) (a : ℕ) (s : Shared) (m : Processor) → Good z s → KnowsObjects z s → KnowsCycle z s → only_polls m.task ≡ true → MarkFacts z a s m →
       Steps z a s (asks z.arena.layout m) (λ t. MarkFacts z a t (takes z.arena.layout shapes m (s.words (cell_of (asks z.arena.layout m)))))
   pub lasts : (z : Cycle) (a : ℕ) (s t : Shared) (m : Processor) → Others z a s t → MarkFacts z a s m → MarkFacts z a t m

@@ -1,18 +1,15 @@
 -- Where the whole processor stands in the handshake of a stop: awake, but where it polls, waits for a cycle, or leaves.
 use Rattle.std.specs.Prelude.{◌≡◌, ℕ, true, false, List, None}
+use Rattle.gh_mutator.specs.Vocabulary.{Acts, Awake, first_party, Gone, is_busy, Layout, Leaving, NewStage, Op, Party, PlaceBegins, Polling, Shape, Stage, StageGoes, Task, Wait, waiting, waits_still}
 use Rattle.gh_base.specs.declared.cell.Ask.TheVariants.{Store}
 use Rattle.gh_base.specs.declared.cell.Cell.TheVariants.{Ack}
-use Rattle.gh_phase.specs.Handshake.{Acts, Awake, first_party, Gone, Party, PlaceBegins, Stage, StageGoes}
-use Rattle.gh_mutator.specs.declared.task.Task.TheVariants as task
 use Rattle.gh_mutator.specs.Deeds.{processor_kind}
 use Rattle.gh_poll.specs.Give.{none_cached}
 use Rattle.gh_poll.specs.Handshake.{HasPlaces, knower, leaves_at, poll_stage_of, poller_of, PollsOn, SoundWait, wait_stage_of, waiter_of}
-use Rattle.gh_poll.specs.Leave.{is_busy}
 use Rattle.gh_mutator.specs.Listing.{asks, is_busy_at, takes}
 use Rattle.gh_mutator.specs.Processor.{opening_processor}
-use Rattle.gh_mutator.specs.Vocabulary.{Layout, Leaving, NewStage, Op, Polling, Processor, Shape, Task, Wait}
+use Rattle.gh_mutator.specs.Processing.{Processor}
 use Rattle.gh_poll.specs.declared.wait.Wait.{Wait as WaitState}
-use Rattle.gh_poll.specs.Wait.{is_busy as waits_still, waiting}
 
 -- it leaves from its own seat, with all that it held, and is not gone yet
 pub record LeavesOn (p : Polling) (x : Leaving) : Type 0 where
@@ -40,24 +37,24 @@ module _ (p : Polling) where
   SoundNewAt _ = Unit {0}
 
   abbrev pub stage_at : Task → Stage
-  stage_at task.Left = Gone
-  stage_at (task.New x) = new_stage_at x.stage
-  stage_at (task.Gc g x) = wait_stage_of (waiting x p)
-  stage_at task.Poll = poll_stage_of p
-  stage_at (task.Leave x) = leaves_at x.stage
+  stage_at Task.Left = Gone
+  stage_at (Task.New x) = new_stage_at x.stage
+  stage_at (Task.Gc g x) = wait_stage_of (waiting x p)
+  stage_at Task.Poll = poll_stage_of p
+  stage_at (Task.Leave x) = leaves_at x.stage
   stage_at _ = Awake
 
   abbrev pub party_at : Task → Party
-  party_at (task.New x) = new_party_at x.stage
-  party_at (task.Gc g x) = waiter_of (waiting x p)
-  party_at task.Poll = poller_of p
+  party_at (Task.New x) = new_party_at x.stage
+  party_at (Task.Gc g x) = waiter_of (waiting x p)
+  party_at Task.Poll = poller_of p
   party_at _ = knower p
 
   abbrev pub SoundAt : Task → Type 0
-  SoundAt (task.New x) = SoundNewAt x.stage
-  SoundAt (task.Gc g x) = WaitsOn x
-  SoundAt task.Poll = PollsOn p
-  SoundAt (task.Leave x) = LeavesOn p x
+  SoundAt (Task.New x) = SoundNewAt x.stage
+  SoundAt (Task.Gc g x) = WaitsOn x
+  SoundAt Task.Poll = PollsOn p
+  SoundAt (Task.Leave x) = LeavesOn p x
   SoundAt _ = Unit {0}
 
 abbrev pub stage_of : Processor → Stage

@@ -1,17 +1,8 @@
 -- What a processor runs while it is awake writes no word of the handshake.
+use Rattle.gh_mutator.specs.Vocabulary.{Assisting, Global, IsQuietInHandshake, Layout, Load, Placing, Register, Seeking, Store, Value}
 use Rattle.gh_assist.specs.Listing as assist
-use Rattle.gh_assist.specs.Listing.{Assisting}
-use Rattle.gh_base.specs.declared.layout.Layout.{Layout}
-use Rattle.gh_base.specs.declared.value.Value.{Value}
-use Rattle.gh_alloc.specs.Place.{Placing}
 use Rattle.gh_alloc.specs.Place as place
-use Rattle.gh_alloc.specs.Search.{Seeking}
 use Rattle.gh_alloc.specs.Search as search
-use Rattle.gh_phase.specs.Handshake.{IsQuietInHandshake}
-use Rattle.gh_mutator.specs.declared.global.Global.{Global}
-use Rattle.gh_mutator.specs.declared.load.Load.{Load}
-use Rattle.gh_mutator.specs.declared.register.Register.{Register}
-use Rattle.gh_mutator.specs.declared.store.Store.{Store}
 use Rattle.gh_poll.specs.Give as give
 use Rattle.gh_mutator.specs.Global as global
 use Rattle.gh_mutator.specs.Load as load

@@ -1,23 +1,17 @@
 -- What holds of what a processor runs, whatever it was told: its scan of a stack, its assist, and its place in the handshake of a stop.
 use Rattle.std.specs.Prelude.{◌≡◌, ◌≢◌, ℕ, ◌%◌, ◌<◌, true, slice_index}
-use Rattle.gh_base.specs.declared.pack.TheConstants.{END}
+use Rattle.gh_mutator.specs.Vocabulary.{Assist, END, Layout, Mark, Marking, marking_at, NewStage, Polling, PollStage, Task}
 use Rattle.gh_assist.specs.Sound as assisting
-use Rattle.gh_phase.specs.declared.view.RunPhase.TheVariants.{Mark}
-use Rattle.gh_stack.specs.declared.scan_stack.StackStage.TheVariants as stack_stage
 use Rattle.gh_stack.specs.Listing as stack
-use Rattle.gh_poll.specs.declared.mark_stack.MarkStackStage.TheVariants as mark_stage
-use Rattle.gh_poll.specs.declared.poll.PollStage.TheVariants.{Marking}
-use Rattle.gh_mutator.specs.declared.task.Task.TheVariants as task
-use Rattle.gh_poll.specs.Local.{marking_at}
-use Rattle.gh_mutator.specs.MarkVocabulary.{MarkStackStage, PollStage, SoundPlace, StackMarking, StackStage}
-use Rattle.gh_mutator.specs.Vocabulary.{Assist, Layout, NewStage, Polling, Processor, Task}
+use Rattle.gh_mutator.specs.MarkVocabulary.{MarkStackStage, SoundPlace, StackMarking, StackStage}
+use Rattle.gh_mutator.specs.Processing.{Processor}
 
 -- What is to be shaded is what the scan wishes for; and where nothing is, the scan's own step is next.
 abbrev pub ShadesByWish : StackStage → MarkStackStage → Type 0
-ShadesByWish scan (mark_stage.Shading sh) = stack.is_waiting scan ≡ true
-ShadesByWish scan (mark_stage.FindRoom sh r) = stack.is_waiting scan ≡ true
-ShadesByWish scan mark_stage.Store = scan ≡ stack_stage.Store
-ShadesByWish scan mark_stage.Ended = ⊥
+ShadesByWish scan (MarkStackStage.Shading sh) = stack.is_waiting scan ≡ true
+ShadesByWish scan (MarkStackStage.FindRoom sh r) = stack.is_waiting scan ≡ true
+ShadesByWish scan MarkStackStage.Store = scan ≡ StackStage.Store
+ShadesByWish scan MarkStackStage.Ended = ⊥
 
 -- The stack that it scans is that of a goroutine of its own, and the scan is that of the cycle which it knows, while marking is on; and it has not noted yet that this stack was scanned in that cycle.
 pub record ScansItsOwn (l : Layout) (p : Polling) (g : ℕ) (m : StackMarking) : Type 0 where
@@ -39,7 +33,7 @@ SoundAssistAt p (Assist n x) = (marking_at p ≡ true) × assisting.IsSound x
 SoundAssistAt p _ = Unit {0}
 
 abbrev pub SoundAssist : Polling → Task → Type 0
-SoundAssist p (task.New x) = SoundAssistAt p x.stage
+SoundAssist p (Task.New x) = SoundAssistAt p x.stage
 SoundAssist p _ = Unit {0}
 
 -- while it assists
@@ -48,7 +42,7 @@ IsAssistingAt (Assist n x) = Unit {0}
 IsAssistingAt _ = ⊥
 
 abbrev pub IsAssisting : Task → Type 0
-IsAssisting (task.New x) = IsAssistingAt x.stage
+IsAssisting (Task.New x) = IsAssistingAt x.stage
 IsAssisting _ = ⊥
 
 -- what holds of a processor, whatever it was told

@@ -1,20 +1,14 @@
 -- What a step, and the task before it, are to a goroutine's statement.
 use Rattle.std.specs.Prelude.{ℕ, Bool, true, false, if◌then◌else◌, Option, Some, None}
-use Rattle.gh_base.specs.declared.layout.Layout.{Layout}
-use Rattle.gh_base.specs.declared.value.Answer.{Answer}
-use Rattle.gh_base.specs.declared.operation.Op.{Op}
-use Rattle.gh_base.specs.declared.operation.Op.TheVariants as op
+use Rattle.gh_mutator.specs.Vocabulary.{Answer, End, Idle, Layout, Leave, Left, New, Op, Poll, says_gone, Task}
 use Rattle.gh_mutator.specs.Processing.{Processor}
-use Rattle.gh_mutator.specs.declared.task.Task.{Task}
-use Rattle.gh_mutator.specs.declared.task.Task.TheVariants.{Idle, Left, New, Poll, End, Leave}
-use Rattle.gh_poll.specs.Leave.{says_gone}
 use Rattle.gh_mutator.specs.Listing.{gives_at, Act}
 
 -- a statement of a goroutine, and no step of the processor's own
 abbrev pub is_statement : Op → Bool
-is_statement op.Poll = false
-is_statement (op.End g) = false
-is_statement op.Leave = false
+is_statement Op.Poll = false
+is_statement (Op.End g) = false
+is_statement Op.Leave = false
 is_statement _ = true
 
 -- the step is the point of a statement

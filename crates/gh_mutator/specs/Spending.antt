@@ -1,18 +1,15 @@
 -- The credit that a processor has spent: the words that it has drawn from the bank, each once. And the words of marking that it owes.
 use Rattle.std.specs.Prelude.{◌≡◌, ◌⊎◌, ℕ, false, true, List, Some}
+use Rattle.gh_mutator.specs.Vocabulary.{Assist, Assisting, goes, Layout, marking_at, Name, NewStage, Op, Polling, PollStage, resumed, Shape, Task, Wanted}
 use Rattle.gh_assist.specs.Listing as assist
 use Rattle.gh_phase.specs.declared.resume.Resumed.{Resumed}
 use Rattle.gh_phase.specs.Listing as resume
 use Rattle.gh_phase.specs.Listing.{Resuming}
-use Rattle.gh_poll.specs.declared.poll.PollStage.TheVariants as poll_stage
-use Rattle.gh_mutator.specs.declared.task.Task.TheVariants as task
 use Rattle.gh_mutator.specs.Deeds.{processor_kind}
 use Rattle.gh_mutator.specs.Listing.{is_busy_at, takes}
-use Rattle.gh_poll.specs.Local.{marking_at}
 use Rattle.gh_mutator.specs.New.{assists}
-use Rattle.gh_poll.specs.Poll.{goes, resumed}
 use Rattle.gh_mutator.specs.Processor.{opening_processor}
-use Rattle.gh_mutator.specs.Vocabulary.{Assist, Assisting, Layout, Name, NewStage, Op, Polling, Processor, Shape, Task, Wanted}
+use Rattle.gh_mutator.specs.Processing.{Processor}
 use Rattle.gh_mutator.specs.Running.{IsAssisting, IsSound}
 
 -- while it assists, the assist counts
@@ -21,7 +18,7 @@ spent_new p (Assist n x) = x.spent
 spent_new p _ = p.local.spent
 
 abbrev pub spent_in_task : Polling → Task → ℕ
-spent_in_task p (task.New x) = spent_new p x.stage
+spent_in_task p (Task.New x) = spent_new p x.stage
 spent_in_task p _ = p.local.spent
 
 abbrev pub spent_of : Processor → ℕ
@@ -33,7 +30,7 @@ owed_new p (Assist n x) = x.owed
 owed_new p _ = p.local.owed
 
 abbrev pub owed_at : Polling → Task → ℕ
-owed_at p (task.New x) = owed_new p x.stage
+owed_at p (Task.New x) = owed_new p x.stage
 owed_at p _ = p.local.owed
 
 abbrev pub owed_of : Processor → ℕ
@@ -51,7 +48,7 @@ pub record DebtsAreDropped : Type 0 where
   pub off : (l : Layout) (shapes : List Shape) (m : Processor) (found : ℕ) → IsSound l m → is_busy_at m.task ≡ true → OwesWhileMarking m → OwesWhileMarking (takes l shapes m found)
   -- where it learns behind a stop that another cycle has begun, what it owed is dropped
   pub other_cycle : (p : Polling) (out : Resumed) → out.another_cycle ≡ true → (resumed p out).local.owed ≡ 0
-  pub other_cycle_step : (l : Layout) (p : Polling) (r : Resuming) (found : ℕ) (out : Resumed) → p.stage ≡ poll_stage.Resuming r → resume.gives r found ≡ Some out → out.another_cycle ≡ true → (goes l p found).local.owed ≡ 0
+  pub other_cycle_step : (l : Layout) (p : Polling) (r : Resuming) (found : ℕ) (out : Resumed) → p.stage ≡ PollStage.Resuming r → resume.gives r found ≡ Some out → out.another_cycle ≡ true → (goes l p found).local.owed ≡ 0
   -- behind a step of an assist it owes what that says, and behind any other as much as before, or nothing
   pub assists_so : (l : Layout) (shapes : List Shape) (m : Processor) (found : ℕ) (w : Wanted) (n : Name) (x : Assisting) → m.task ≡ assists w n x → owed_of (takes l shapes m found) ≡ (assist.goes l x found).owed
   pub stays : (l : Layout) (shapes : List Shape) (m : Processor) (found : ℕ) → IsSound l m → is_busy_at m.task ≡ true → (IsAssisting m.task → ⊥) → (owed_of (takes l shapes m found) ≡ owed_of m) ⊎ (owed_of (takes l shapes m found) ≡ 0)

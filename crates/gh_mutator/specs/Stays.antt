@@ -1,30 +1,23 @@
 -- An operation is answered exactly where no further step is asked for. And what single steps come to, for the crates above that cite it.
-use Rattle.std.proofs.Common.{ap, arith}
-use Rattle.std.specs.Prelude.{◌≡◌, ℕ, ◌+◌, Bool, true, false, cond, ◌↔◌, List, Option, Some, None, is_none, IsNone, refl}
-use Rattle.gh_base.specs.declared.value.Answer.TheVariants as answer
+use Rattle.std.proofs.Common.{ap, arith, ◌≡◌, ℕ, Bool, true, false, ◌↔◌, List, Option, Some, None, is_none, IsNone, refl}
+use Rattle.gh_mutator.specs.Vocabulary.{Answer, Assisting, Found, Layout, marking_at, Name, NewStage, Placing, Polling, Seeking, Shape, Store, Task, Then, Wanted}
 use Rattle.gh_alloc.specs.Search as search
 use Rattle.gh_alloc.specs.Stays.{Base, search_base}
-use Rattle.gh_poll.specs.Barrier.{written}
-use Rattle.gh_poll.specs.declared.poll.Local.{Local}
 use Rattle.gh_poll.specs.Leave as leave
-use Rattle.gh_poll.specs.Local.{is_mark, marking_at}
 use Rattle.gh_poll.specs.Poll as poll
 use Rattle.gh_poll.specs.Stays.{payment_spent}
 use Rattle.gh_poll.specs.Wait as wait
-use Rattle.gh_mutator.specs.declared.store.Store.{Store}
-use Rattle.gh_mutator.specs.declared.store.StoreStage.TheVariants as store_stage
-use Rattle.gh_mutator.specs.declared.task.Task.TheVariants as task
 use Rattle.gh_mutator.specs.Global as global
 use Rattle.gh_mutator.specs.Listing.{after_gc, after_leave, after_poll as after_polls, follows, gives_at, is_busy_at, once_ended, takes_at}
 use Rattle.gh_mutator.specs.Load as load
 use Rattle.gh_mutator.specs.Mutating.{Mutating, gives, goes, is_busy}
-use Rattle.gh_mutator.specs.New.{after_assist, after_place, after_search, after_wait, answer_assist, answer_made, answer_search, assisting, assists, made_task}
+use Rattle.gh_mutator.specs.New.{after_assist, after_search, answer_assist, answer_made, answer_search, made_task}
 use Rattle.gh_mutator.specs.New as new
 use Rattle.gh_mutator.specs.Processor.{register_of}
 use Rattle.gh_mutator.specs.Spending.{spent_of}
 use Rattle.gh_mutator.specs.Step.{answered}
 use Rattle.gh_mutator.specs.Store as store
-use Rattle.gh_mutator.specs.Vocabulary.{Assisting, Shape, Answer, Found, Layout, Placing, Polling, Seeking, Name, NewStage, Wanted, Processor, Then, Task, Value}
+use Rattle.gh_mutator.specs.Processing.{Processor}
 
 -- ---- the processor
 
@@ -52,17 +45,17 @@ new_ends : (l : Layout) (shapes : List Shape) (m : Processor) (w : Wanted) (s : 
 new_ends l shapes m w s found = grind (arith, assist_ends, once, place_ends, search_ends)
 
 ends_at : (l : Layout) (shapes : List Shape) (m : Processor) (t : Task) (found : ℕ) → is_busy_at t ≡ true → is_busy_at (takes_at l shapes m t found).task ≡ is_none (gives_at l m t found)
-ends_at l shapes m task.Idle found busy = absurd (cc)
-ends_at l shapes m task.Left found busy = absurd (cc)
-ends_at l shapes m (task.Load x) found busy = then_ends task.Load (load.step l x found).then (λ s. refl)
-ends_at l shapes m (task.Store x) found busy = then_ends task.Store (store.step l m.poll.local (register_of m x.g x.v) x found).then (λ s. refl)
-ends_at l shapes m (task.Global x) found busy = then_ends task.Global (global.step l (register_of m x.g x.r) x found).then (λ s. refl)
-ends_at l shapes m (task.Register x) found busy = refl
-ends_at l shapes m (task.New x) found busy = new_ends l shapes m x.wanted x.stage found
-ends_at l shapes m (task.Gc g x) found busy = once_ends (after_gc m g (wait.goes l (wait.waiting x m.poll) found)) answer.Swept refl (λ y. refl) (wait.gives l (wait.waiting x m.poll) found)
-ends_at l shapes m task.Poll found busy = once_ends (after_polls m (poll.goes l m.poll found)) answer.Done refl (λ y. refl) (poll.gives l m.poll found)
-ends_at l shapes m (task.End g) found busy = refl
-ends_at l shapes m (task.Leave x) found busy = once_ends (after_leave m (leave.goes x found)) answer.Done refl (λ y. refl) (leave.gives x found)
+ends_at l shapes m Task.Idle found busy = absurd (cc)
+ends_at l shapes m Task.Left found busy = absurd (cc)
+ends_at l shapes m (Task.Load x) found busy = then_ends Task.Load (load.step l x found).then (λ s. refl)
+ends_at l shapes m (Task.Store x) found busy = then_ends Task.Store (store.step l m.poll.local (register_of m x.g x.v) x found).then (λ s. refl)
+ends_at l shapes m (Task.Global x) found busy = then_ends Task.Global (global.step l (register_of m x.g x.r) x found).then (λ s. refl)
+ends_at l shapes m (Task.Register x) found busy = refl
+ends_at l shapes m (Task.New x) found busy = new_ends l shapes m x.wanted x.stage found
+ends_at l shapes m (Task.Gc g x) found busy = once_ends (after_gc m g (wait.goes l (wait.waiting x m.poll) found)) Answer.Swept refl (λ y. refl) (wait.gives l (wait.waiting x m.poll) found)
+ends_at l shapes m Task.Poll found busy = once_ends (after_polls m (poll.goes l m.poll found)) Answer.Done refl (λ y. refl) (poll.gives l m.poll found)
+ends_at l shapes m (Task.End g) found busy = refl
+ends_at l shapes m (Task.Leave x) found busy = once_ends (after_leave m (leave.goes x found)) Answer.Done refl (λ y. refl) (leave.gives x found)
 
 pub ends : (l : Layout) (m : Mutating) (found : ℕ) → is_busy m ≡ true → IsNone (gives l m found) ↔ (is_busy (goes l m found) ≡ true)
 ends l m found busy = grind (arith, ends_at)
@@ -80,7 +73,3 @@ seeks_now m w = refl
 -- an assist leaves the words that it says it has spent
 pub assist_spent : (m : Processor) (w : Wanted) (n : Name) (x : Assisting) (out : Option (Unit {0})) → spent_of (after_assist m w n x out) ≡ x.spent
 assist_spent m w n x out = grind (arith, payment_spent)
-
--- a pointer is stored behind the write barrier where marking is on, as the processor knows
-pub stores_behind : (l : Layout) (own : Local) (held : Value) (x : Store) → is_mark own.view.phase ≡ true → store.stores l own held x true ≡ store_stage.Writing (written own (store.pointer_cell_at l (x.at + x.k)) held)
-stores_behind l own held x on = ap (λ (marking : Bool). cond marking (store_stage.Writing (written own (store.pointer_cell_at l (x.at + x.k)) held)) store_stage.Field) on

@@ -1,9 +1,6 @@
 -- What one step of a statement does, and what is read off it.
 use Rattle.std.specs.Prelude.{true, false, Option, Some, None}
-use Rattle.gh_base.specs.declared.value.Answer.{Answer}
-use Rattle.gh_mutator.specs.declared.step.Step.{Step}
-use Rattle.gh_mutator.specs.declared.step.Then.{Then}
-use Rattle.gh_mutator.specs.declared.step.Then.TheVariants.{GoesOn, Ends}
+use Rattle.gh_mutator.specs.Vocabulary.{Answer, Ends, GoesOn, Step, Then}
 
 -- the statement goes on so, and the step does nothing else
 abbrev pub goes_on : {S : Type 0} → S → Step S

@@ -1,14 +1,14 @@
 -- A processor sweeps a span where its search for a slot does.
 use Rattle.std.specs.Prelude.{◌≡◌, ℕ, Bool, true, List, Option, Some, None, is_some}
+use Rattle.gh_mutator.specs.Vocabulary.{Layout, NewStage, Op, Search, Seeking, Shape, Task, Wanted}
 use Rattle.gh_alloc.specs.Search as search
 use Rattle.gh_sweep.specs.Listing.{is_busy, Sweeping}
 use Rattle.gh_sweep.specs.Running.{SweepsOn}
-use Rattle.gh_mutator.specs.declared.task.Task.TheVariants as task
 use Rattle.gh_mutator.specs.Deeds.{processor_kind}
 use Rattle.gh_mutator.specs.Listing.{asks, takes, takes_at}
 use Rattle.gh_mutator.specs.New.{searches as looks}
 use Rattle.gh_mutator.specs.Processor.{opening_processor}
-use Rattle.gh_mutator.specs.Vocabulary.{Seeking, Wanted, Layout, NewStage, Op, Processor, Search, Shape, Task}
+use Rattle.gh_mutator.specs.Processing.{Processor}
 
 -- the sweep that it runs, if it runs one
 abbrev pub sweep_new : NewStage → Option Sweeping
@@ -16,7 +16,7 @@ sweep_new (Search waited q) = search.sweep_in q
 sweep_new _ = None
 
 abbrev pub sweep_at : Task → Option Sweeping
-sweep_at (task.New x) = sweep_new x.stage
+sweep_at (Task.New x) = sweep_new x.stage
 sweep_at _ = None
 
 abbrev pub sweep_in : Processor → Option Sweeping
@@ -31,7 +31,7 @@ SearchesAt (Search waited y) = Unit {0}
 SearchesAt _ = ⊥
 
 abbrev pub IsSearching : Task → Type 0
-IsSearching (task.New x) = SearchesAt x.stage
+IsSearching (Task.New x) = SearchesAt x.stage
 IsSearching _ = ⊥
 
 -- While it runs a sweep it goes on with it, and nothing but a search begins one.

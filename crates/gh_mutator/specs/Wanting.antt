@@ -1,11 +1,8 @@
 -- What a `new` wants fits: the slot of its size class, or pages of its own.
 use Rattle.std.specs.Prelude.{◌≡◌, ℕ, ◌*◌, ◌/◌, ◌<◌, ◌≤◌, List, length}
-use Rattle.gh_base.specs.declared.shape.Shape.{Shape}
-use Rattle.gh_base.specs.Shapes.{ShapesFit}
-use Rattle.gh_class.specs.Classes.{slot_of, class_number, slot_words}
+use Rattle.gh_mutator.specs.Vocabulary.{class_number, IsRegister, Shape, ShapesFit, slot_of, slot_words}
 use Rattle.gh_class.specs.declared.class.TheConstants.{MOST_SPAN_PAGES, MOST_TYPE_WORDS}
 use Rattle.gh_mutator.specs.New.{wanted_of}
-use Rattle.gh_poll.specs.Registers.{IsRegister}
 use Rattle.gh_mutator.specs.Sound.{SoundWanted}
 
 -- the words of a slot of a small object, and of a large one

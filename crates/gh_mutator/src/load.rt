@@ -1,16 +1,20 @@
 //! A load: the page word of its object, the bit that tells a pointer from a number, the field, and, where
 //! the field is a reference, the name of the object found.
 
-ghost use Rattle.std.specs.Prelude.{◌≡◌};
+ghost use Rattle.std.specs.Prelude.{◌≡◌, false, IfSome, IsTrue};
 ghost use Rattle.gh_base.specs.Cells.{InRange};
 ghost use Rattle.gh_base.specs.Steps.{cell_of};
+ghost use Rattle.gh_base.specs.declared.cell.Ask.TheVariants as ask;
 ghost use Rattle.gh_base.specs.declared.layout.Layout.{Layout};
 ghost use Rattle.gh_mutator.specs.Fields.{value_told};
 ghost use Rattle.gh_mutator.specs.Load.{asks, at_stage, begins, naming, step};
+ghost use Rattle.gh_mutator.specs.Step.{goes_on};
 ghost use Rattle.gh_poll.specs.Registers.{IsNear};
 ghost use Rattle.gh_mutator.specs.Sound.{SoundLoad};
 
-use crate::field::{birth_cell, field_cell, has_field, is_pointer_by, page_cell, value_of};
+use crate::field::{
+    birth_cell, bits_cell, field_cell, has_field, is_pointer_by, page_cell, value_of,
+};
 use crate::step::{Step, Then};
 use gh_base::{Answer, Ask, Cell, Fault, Layout, Name, Value};
 use gh_bitmap::ReadPointer;
@@ -147,6 +151,46 @@ impl Load {
             LoadStage::NilBase | LoadStage::Field { .. } => true,
             LoadStage::Page => !has_field(self.k, found),
             LoadStage::Bits | LoadStage::Birth { .. } => false,
+        }
+    }
+
+    /// The cell that its next step loads, where that is the page word or the word of the bitmap.
+    #[inline(always)]
+    pub(crate) fn looks(&self, layout: &Layout) -> Option<Cell>
+        requires { SoundLoad layout.now.pages self.now }
+        ensures asks { IfSome result (λ c. asks layout.now self.now ≡ ask.Load c) }
+        ensures within { IfSome result (InRange layout.now) }
+    {
+        match self.stage {
+            LoadStage::Page => Some(page_cell(layout, self.at)),
+            LoadStage::Bits => Some(bits_cell(layout, self.at + self.k)),
+            _ => None,
+        }
+    }
+
+    /// Makes the step that found this at once, where by it the load goes on to the word of the bitmap or to the field, and answers
+    /// whether that is so; where not, nothing has changed.
+    #[inline(always)]
+    pub(crate) fn reads(&mut self, layout: &Layout, found: u64) -> bool
+        requires { SoundLoad layout.now.pages self.old }
+        ensures goes { IsTrue result → step layout.now self.old found ≡ goes_on self.new }
+        ensures sound { SoundLoad layout.now.pages self.new }
+        ensures stays { result ≡ false → self.new ≡ self.old }
+    {
+        match self.stage {
+            LoadStage::Page => {
+                if !has_field(self.k, found) {
+                    return false;
+                }
+                self.stage = LoadStage::Bits;
+                true
+            }
+            LoadStage::Bits => {
+                let pointer = is_pointer_by(layout, self.at + self.k, found);
+                self.stage = LoadStage::Field { pointer };
+                true
+            }
+            _ => false,
         }
     }
 }

@@ -8,7 +8,7 @@ ghost use Rattle.gh_base.specs.declared.value.Answer.{Answer};
 ghost use Rattle.gh_base.specs.declared.value.Answer.TheVariants as answers;
 ghost use Rattle.gh_mutator.specs.AtOnce.{object_in};
 ghost use Rattle.gh_mutator.specs.Faults.{rested};
-ghost use Rattle.gh_mutator.specs.Listing.{is_made_further, is_searching, is_waiting, search_goes_on};
+ghost use Rattle.gh_mutator.specs.Listing.{is_at_field, is_made_further, is_searching, is_waiting, search_goes_on};
 ghost use Rattle.gh_base.specs.declared.layout.Layout.{Layout};
 ghost use Rattle.gh_base.specs.Cells.{InRange, length_of};
 ghost use Rattle.gh_base.specs.Steps.{cell_of, changed, request, target};
@@ -473,6 +473,42 @@ impl<'s> Mutator<'s> {
             self.marks = self.marks.saturating_add(1);
         }
         answer
+    }
+
+    /// It loads or stores a field: [`Mutator::reads`] may make its next step.
+    #[inline(always)]
+    pub fn is_at_field(&self) -> bool
+        ensures { result ≡ is_at_field self.now.processor.task }
+    {
+        self.processor.is_at_field()
+    }
+
+    /// The cell that its next step loads, where it loads or stores a field and looks at the page word of the object or at the word of
+    /// the bitmap: [`Mutator::reads`] may make that step.
+    #[inline(always)]
+    pub fn reads_at(&self, layout: &Layout) -> Option<Cell>
+        requires sound { SoundMutating layout.now self.now.shapes self.now.processor }
+        ensures asks { IfSome result (λ c. asks layout.now self.now ≡ ask.Load c) }
+        ensures within { IfSome result (InRange layout.now) }
+        ensures busy { IfSome result (λ c. is_busy self.now ≡ true) }
+    {
+        self.processor.reads_at(layout, self.shapes)
+    }
+
+    /// Makes the step that found this at once, where by it the load or the store of a field goes on to the word of the bitmap, or to the
+    /// field without a write barrier, and answers whether that is so; where not, nothing has changed, and [`Mutator::take`] makes the
+    /// step. Such a step answers nothing and is the point of no statement.
+    #[inline(always)]
+    pub fn reads(&mut self, layout: &Layout, found: u64) -> bool
+        requires sound { SoundMutating layout.now self.old.shapes self.old.processor }
+        ensures goes { IsTrue result → self.new ≡ goes layout.now self.old found }
+        ensures last { IsTrue result → is_last self.old.processor.task ≡ false }
+        ensures point { IsTrue result → is_point (acts layout.now self.old found) ≡ false }
+        ensures answer { IsTrue result → statement_answer layout.now self.old.processor found ≡ None }
+        ensures sound { SoundMutating layout.now self.new.shapes self.new.processor }
+        ensures stays { result ≡ false → self.new ≡ self.old }
+    {
+        self.processor.reads(layout, self.shapes, found)
     }
 
     /// The words that it has drawn from the bank of credit. The number stands at `u64::MAX`, which no run reaches.

@@ -8,7 +8,7 @@ ghost use Rattle.gh_base.specs.declared.limits.TheConstants.{MOST_GOROUTINES};
 ghost use Rattle.gh_base.specs.Cells.{InRange, length_of};
 ghost use Rattle.gh_base.specs.Steps.{cell_of, changed, request, target};
 ghost use Rattle.gh_base.specs.declared.value.Answer.TheVariants.{Done, Ref, Swept};
-ghost use Rattle.gh_mutator.specs.Listing.{acts, after_gc, after_poll, applied, asks, gives, is_busy_at, is_made_further, is_searching, is_waiting, once_ended, search_goes_on, takes};
+ghost use Rattle.gh_mutator.specs.Listing.{acts, after_gc, after_poll, applied, asks, gives, is_at_field, is_busy_at, is_made_further, is_searching, is_waiting, once_ended, search_goes_on, takes};
 ghost use Rattle.gh_mutator.specs.Load as load;
 ghost use Rattle.gh_poll.specs.Local.{with_ended};
 ghost use Rattle.gh_poll.specs.Poll as polls;
@@ -563,5 +563,66 @@ impl<'s> Processor<'s> {
         }
         self.at = TaskAt::Idle;
         Some(place.name())
+    }
+
+    /// It loads or stores a field: [`Processor::reads`] may make its next step.
+    #[inline(always)]
+    pub(crate) fn is_at_field(&self) -> bool
+        ensures { result ≡ is_at_field self.now.task }
+    {
+        match &self.at {
+            TaskAt::Load(_) => true,
+            TaskAt::Large => match &self.large {
+                LargeTask::Store(_) => true,
+                _ => false,
+            },
+            _ => false,
+        }
+    }
+
+    /// The cell that its next step loads, where it loads or stores a field and looks at the page word of the object or at the word of
+    /// the bitmap.
+    #[inline(always)]
+    pub(crate) fn reads_at(&self, layout: &Layout, _shapes: &Shapes) -> Option<Cell>
+        requires sound { Sound layout.now _shapes.now self.now }
+        ensures asks { IfSome result (λ c. asks layout.now self.now ≡ Ask.Load c) }
+        ensures within { IfSome result (InRange layout.now) }
+        ensures busy { IfSome result (λ c. is_busy_at self.now.task ≡ true) }
+    {
+        match &self.at {
+            TaskAt::Load(x) => x.looks(layout),
+            TaskAt::Large => match &self.large {
+                LargeTask::Store(x) => x.looks(layout),
+                _ => None,
+            },
+            _ => None,
+        }
+    }
+
+    /// Makes the step that found this at once, where by it the load or the store of a field goes on to its next word, and answers
+    /// whether that is so; where not, nothing has changed.
+    #[inline(always)]
+    pub(crate) fn reads(&mut self, layout: &Layout, _shapes: &Shapes, found: u64) -> bool
+        requires polls { SoundPolling layout.now self.old.poll }
+        requires sound { Sound layout.now _shapes.now self.old }
+        ensures goes { IsTrue result → self.new ≡ takes layout.now _shapes.now self.old found }
+        ensures polls { SoundPolling layout.now self.new.poll }
+        ensures sound { Sound layout.now _shapes.now self.new }
+        ensures last { IsTrue result → is_last self.old.task ≡ false }
+        ensures point { IsTrue result → is_point (acts layout.now self.old found) ≡ false }
+        ensures answer { IsTrue result → statement_answer layout.now self.old found ≡ None }
+        ensures stays { result ≡ false → self.new ≡ self.old }
+    {
+        match &mut self.at {
+            TaskAt::Load(x) => x.reads(layout, found),
+            TaskAt::Large => match &mut self.large {
+                LargeTask::Store(x) => {
+                    let held = self.poll.register(x.g, x.v);
+                    x.reads(layout, &self.poll, held, found)
+                }
+                _ => false,
+            },
+            _ => false,
+        }
     }
 }

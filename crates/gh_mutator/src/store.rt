@@ -1,14 +1,17 @@
 //! A store: the page word of its object, the bit that tells a pointer from a number, and the field.
 
-ghost use Rattle.std.specs.Prelude.{◌≡◌, true};
+ghost use Rattle.std.specs.Prelude.{◌≡◌, true, false, IfSome, IsTrue, Option};
 ghost use Rattle.gh_barrier.specs.Listing as writes;
 ghost use Rattle.gh_base.specs.Cells.{InRange};
 ghost use Rattle.gh_base.specs.Machines.{Runs};
 ghost use Rattle.gh_base.specs.Steps.{cell_of, request};
+ghost use Rattle.gh_base.specs.declared.cell.Ask.TheVariants as ask;
+ghost use Rattle.gh_base.specs.declared.held.Held.{Held};
+ghost use Rattle.gh_base.specs.declared.value.Value.{Value};
 ghost use Rattle.gh_poll.specs.Barrier.{has_entries, held_then, with_held};
 ghost use Rattle.gh_mutator.specs.Listing.{applied};
 ghost use Rattle.gh_mutator.specs.Processor.{keeping, register_of};
-ghost use Rattle.gh_mutator.specs.Step.{answered};
+ghost use Rattle.gh_mutator.specs.Step.{answered, goes_on};
 ghost use Rattle.gh_mutator.specs.declared.task.Task.TheVariants as task;
 ghost use Rattle.gh_poll.specs.PollSound.{SoundPolling};
 ghost use Rattle.gh_poll.specs.Registers.{IsNear};
@@ -16,7 +19,8 @@ ghost use Rattle.gh_mutator.specs.Sound.{IsFieldNumber, SoundStore, StoreRoom};
 ghost use Rattle.gh_mutator.specs.Store.{after_write, asks, at_stage, begins, by_kind, held_behind, step, stores};
 
 use crate::field::{
-    field_cell, has_field, is_pointer_by, kinds_differ, page_cell, pointer_cell, word_of_value,
+    bits_cell, field_cell, has_field, is_pointer_by, kinds_differ, page_cell, pointer_cell,
+    word_of_value,
 };
 use crate::processor::Processor;
 use crate::step::Step;
@@ -190,6 +194,53 @@ impl Store {
                 kinds_differ(is_pointer_by(layout, self.at + self.k, found), held)
             }
             StoreStage::Writing(write) => write.is_point(),
+        }
+    }
+
+    /// The cell that its next step loads, where that is the page word or the word of the bitmap.
+    #[inline(always)]
+    pub(crate) fn looks(&self, layout: &Layout) -> Option<Cell>
+        requires { SoundStore layout.now.pages self.now }
+        ensures asks { IfSome result (λ c. (held : Value) → asks layout.now held self.now ≡ ask.Load c) }
+        ensures within { IfSome result (InRange layout.now) }
+    {
+        match &self.stage {
+            StoreStage::Page => Some(page_cell(layout, self.at)),
+            StoreStage::Bits => Some(bits_cell(layout, self.at + self.k)),
+            _ => None,
+        }
+    }
+
+    /// Makes the step that found this at once, where by it the store goes on to the word of the bitmap, or to the field without a write
+    /// barrier, and answers whether that is so; where not, nothing has changed. Register `v` holds this.
+    #[inline(always)]
+    pub(crate) fn reads(&mut self, layout: &Layout, poll: &Poll, held: Value, found: u64) -> bool
+        requires sound { SoundStore layout.now.pages self.old }
+        requires room { StoreRoom layout.now poll.now self.old.stage }
+        ensures goes { IsTrue result → step layout.now poll.now.local held self.old found ≡ goes_on self.new }
+        ensures keeps { IsTrue result → (h : Option Held) → held_behind layout.now h self.old.stage found ≡ h }
+        ensures same { (self.new.g ≡ self.old.g) × (self.new.v ≡ self.old.v) }
+        ensures sound { SoundStore layout.now.pages self.new }
+        ensures room { StoreRoom layout.now poll.now self.new.stage }
+        ensures stays { result ≡ false → self.new ≡ self.old }
+    {
+        match &self.stage {
+            StoreStage::Page => {
+                if !has_field(self.k, found) {
+                    return false;
+                }
+                self.stage = StoreStage::Bits;
+                true
+            }
+            StoreStage::Bits => {
+                let pointer = is_pointer_by(layout, self.at + self.k, found);
+                if kinds_differ(pointer, held) || (pointer && poll.marking()) {
+                    return false;
+                }
+                self.stage = StoreStage::Field;
+                true
+            }
+            _ => false,
         }
     }
 }

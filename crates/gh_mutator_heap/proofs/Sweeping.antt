@@ -1,18 +1,10 @@
 -- Where a processor begins a sweep it has found the head of an unswept span.
 use Rattle.std.proofs.Common.{subst, ◌≡◌, ℕ, Bool, Option, Some, None, sym, ap, ◌∙◌, arith}
+use Rattle.gh_mutator_heap.proofs.Vocabulary.{Answer, Arena, asks_at, Assist, FactsAt, IsSearching, Layout, NewStage, Processor, rest, Search, searches, Seeking, sweep_at, sweep_in, Sweeping, SweepsAreRunOn, SweepsHere, takes, takes_at, Task, View, Wait, Want, Wanted}
 use Rattle.gh_alloc.specs.Search as search
-use Rattle.gh_alloc.specs.SearchFacts.{SweepsHere}
-use Rattle.gh_sweep.specs.Listing.{Sweeping}
 use Rattle.gh_sweep.specs.Running.{BeginsSweep, RunsSweeps}
-use Rattle.gh_mutator.specs.declared.task.Task.TheVariants as task
-use Rattle.gh_mutator_heap.specs.Facts.{FactsAt, rest}
-use Rattle.gh_mutator.specs.New.{searches}
 use Rattle.gh_mutator_heap.specs.Sweeping.{ProcessorsRunSweeps}
-use Rattle.gh_mutator.specs.Sweeping.{sweep_at, sweep_in, IsSearching, SweepsAreRunOn}
-use Rattle.gh_mutator.specs.Vocabulary.{Answer}
-use Rattle.gh_mutator_heap.specs.Vocabulary.{Arena, View}
-use Rattle.gh_mutator_heap.proofs.Vocabulary.{Assist, asks_at, Layout, NewStage, Place, Processor, Search, Seeking, takes_at, Task, Wait, Wanted, Want}
-use Rattle.gh_mutator.specs.Listing.{takes}
+use Rattle.gh_mutator.specs.declared.new.NewStage.TheVariants.{Place}
 
 -- what is known of the search and of the processor by their laws
 pub record Known : Type 0 where
@@ -45,23 +37,23 @@ module _ (k : Known) (z : Arena) (a : ℕ) (v : View) (m : Processor) (pending :
   other q is not f none some = absurd (none_so (sweep_in (takes z.layout z.shapes m found)) (k.run_on.others z.layout z.shapes m found (ap sweep_at is ∙ none) (λ e. not (subst IsSearching is e))) (ap (λ (t : Task). sweep_in (takes_at z.layout z.shapes m t found)) is ∙ some))
 
   begins_at : (q : Task) → m.task ≡ q → Begins q
-  begins_at task.Idle is = other task.Idle is (λ e. e)
-  begins_at task.Left is = other task.Left is (λ e. e)
-  begins_at (task.Load x) is = other (task.Load x) is (λ e. e)
-  begins_at (task.Store x) is = other (task.Store x) is (λ e. e)
-  begins_at (task.Global x) is = other (task.Global x) is (λ e. e)
-  begins_at (task.Register x) is = other (task.Register x) is (λ e. e)
-  begins_at (task.New x) is = by x.stage is where
-    by : (n : NewStage) → m.task ≡ task.New (record { wanted = x.wanted; stage = n }) → Begins (task.New (record { wanted = x.wanted; stage = n }))
+  begins_at Task.Idle is = other Task.Idle is (λ e. e)
+  begins_at Task.Left is = other Task.Left is (λ e. e)
+  begins_at (Task.Load x) is = other (Task.Load x) is (λ e. e)
+  begins_at (Task.Store x) is = other (Task.Store x) is (λ e. e)
+  begins_at (Task.Global x) is = other (Task.Global x) is (λ e. e)
+  begins_at (Task.Register x) is = other (Task.Register x) is (λ e. e)
+  begins_at (Task.New x) is = by x.stage is where
+    by : (n : NewStage) → m.task ≡ Task.New (record { wanted = x.wanted; stage = n }) → Begins (Task.New (record { wanted = x.wanted; stage = n }))
     by (Search waited y) is = searched x.wanted waited y
-    by (Wait y) is = other (task.New (record { wanted = x.wanted; stage = Wait y })) is (λ e. e)
-    by (Place y) is = other (task.New (record { wanted = x.wanted; stage = Place y })) is (λ e. e)
-    by (Want n) is = other (task.New (record { wanted = x.wanted; stage = Want n })) is (λ e. e)
-    by (Assist n y) is = other (task.New (record { wanted = x.wanted; stage = Assist n y })) is (λ e. e)
-  begins_at (task.Gc g x) is = other (task.Gc g x) is (λ e. e)
-  begins_at task.Poll is = other task.Poll is (λ e. e)
-  begins_at (task.End g) is = other (task.End g) is (λ e. e)
-  begins_at (task.Leave x) is = other (task.Leave x) is (λ e. e)
+    by (Wait y) is = other (Task.New (record { wanted = x.wanted; stage = Wait y })) is (λ e. e)
+    by (Place y) is = other (Task.New (record { wanted = x.wanted; stage = Place y })) is (λ e. e)
+    by (Want n) is = other (Task.New (record { wanted = x.wanted; stage = Want n })) is (λ e. e)
+    by (Assist n y) is = other (Task.New (record { wanted = x.wanted; stage = Assist n y })) is (λ e. e)
+  begins_at (Task.Gc g x) is = other (Task.Gc g x) is (λ e. e)
+  begins_at Task.Poll is = other Task.Poll is (λ e. e)
+  begins_at (Task.End g) is = other (Task.End g) is (λ e. e)
+  begins_at (Task.Leave x) is = other (Task.Leave x) is (λ e. e)
 
 pub runs_sweeps : Known → ProcessorsRunSweeps
 runs_sweeps k = grind (arith, begins_at)

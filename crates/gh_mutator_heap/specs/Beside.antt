@@ -1,25 +1,20 @@
 -- A processor that goes on while a cycle is marked: each of its steps is one of the heap and one of marking at once, and the two states belong together behind it, with what is known of the processor by its task.
 use Rattle.std.specs.Prelude.{◌≡◌, ℕ, true, false, Option, None}
-use Rattle.gh_base.specs.declared.cell.Cell.TheVariants as cell
+use Rattle.gh_mutator_heap.specs.Vocabulary.{Answer, asks, begins, cell_of, Good, Heap, is_busy_at, Op, Processor, sweep_in, takes, Task, view}
+use Rattle.gh_base.specs.declared.cell.Cell.{Cell}
 use Rattle.gh_base.specs.declared.pack.TheConstants.{END}
 use Rattle.gh_cycle.specs.Beside.{IsBeside}
 use Rattle.gh_cycle.specs.Reached.{IsBounded}
 use Rattle.gh_heap.specs.Moves as heap
-use Rattle.gh_heap.specs.Rights.{Good, view, Shared as Heap}
 use Rattle.gh_marks.specs.Colours.{Cycle, Shared as Marking}
 use Rattle.gh_marks.specs.Good.{Good as MarkingGood}
 use Rattle.gh_marks.specs.Moves.{Went}
 use Rattle.gh_phase.specs.declared.view.RunPhase.TheVariants.{Mark}
-use Rattle.gh_mutator.specs.declared.task.Task.TheVariants as task
 use Rattle.gh_mutator_heap.specs.Facts.{ProcessorFacts, MayBegin, ShapesAreGood}
-use Rattle.gh_mutator.specs.Listing.{asks, begins, is_busy_at, takes}
 use Rattle.gh_poll.specs.MarkFacts.{KnowsCycle}
 use Rattle.gh_mutator.specs.ProcessorMarks.{MarkFacts, only_polls}
 use Rattle.gh_mutator_heap.specs.Runs.{DoesPoints}
 use Rattle.gh_mutator.specs.Sound.{has_room}
-use Rattle.gh_mutator.specs.Sweeping.{sweep_in}
-use Rattle.gh_mutator.specs.Vocabulary.{Answer, cell_of, Op}
-use Rattle.gh_mutator_heap.specs.Vocabulary.{Processor}
 use Rattle.gh_mutator.specs.Running.{IsSound}
 
 -- What is known where a processor goes on: of the heap, of marking, of what the two are to each other, and of the processor.
@@ -30,7 +25,7 @@ pub record Together (z : Cycle) (a : ℕ) (h : Heap) (s : Marking) (m : Processo
   pub bounded : IsBounded z.arena h.ever
   pub beside : IsBeside z.arena h s
   -- a goroutine that has ended its stack says so
-  pub ends : (g : ℕ) → h.ever.ended g ≡ true → h.words (cell.Scanned g) ≡ END
+  pub ends : (g : ℕ) → h.ever.ended g ≡ true → h.words (Cell.Scanned g) ≡ END
   pub cycle : KnowsCycle z s
   pub sound : IsSound z.arena.layout m
   -- while a cycle is marked each span is swept
@@ -57,7 +52,7 @@ StepsBesideMarking = (z : Cycle) (a : ℕ) (h : Heap) (s : Marking) (m : Process
 
 -- Any operation may begin, a store where there is room for its write barrier.
 abbrev pub BeginsBesideMarking : Type 0
-BeginsBesideMarking = (z : Cycle) (a : ℕ) (h : Heap) (s : Marking) (m : Processor) (o : Op) → Together z a h s m None → m.task ≡ task.Idle → MayBegin z.arena a (view h) o → has_room m o ≡ true → MarkFacts z a s (begins z.arena.shapes m o)
+BeginsBesideMarking = (z : Cycle) (a : ℕ) (h : Heap) (s : Marking) (m : Processor) (o : Op) → Together z a h s m None → m.task ≡ Task.Idle → MayBegin z.arena a (view h) o → has_room m o ≡ true → MarkFacts z a s (begins z.arena.shapes m o)
 
 pub record GoesOnBesideMarking : Type 0 where
   pub begins : BeginsBesideMarking

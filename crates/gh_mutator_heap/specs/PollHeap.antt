@@ -1,25 +1,17 @@
 -- What a processor knows of the heap while it polls, waits or leaves beside any number of others, at each stage, and under which rights. Between two operations it holds what it has cached; at a stop it gives that back under the lock, and then it holds nothing until it goes on.
 use Rattle.std.specs.Prelude.{◌≡◌, ℕ, ◌<◌, ◌≤◌, Bool, true, false, ◌==◌, ◌||◌, List, [], ◌∷◌, drop, length, slice_index_or, Option, Some, None}
-use Rattle.gh_base.specs.Holding.{IsHeld}
-use Rattle.gh_alloc.specs.FindFacts.{IsCached}
+use Rattle.gh_mutator_heap.specs.Vocabulary.{Arena, cached_in, IsCached, IsHeld, IsOf, Leaving, Means, MOST_GOROUTINES, Polling, register_at, REGISTERS, Right, Small, SoundGiveStage, SoundRoomFinding, SpanClass, View, Waiting}
 use Rattle.gh_phase.specs.declared.resume.ResumeStage.{ResumeStage}
-use Rattle.gh_phase.specs.declared.resume.ResumeStage.TheVariants as resume_stage
 use Rattle.gh_phase.specs.declared.view.View.{View as PhaseView}
 use Rattle.gh_phase.specs.Listing as resume
-use Rattle.gh_wbuf.specs.Sound.{SoundGiveStage, SoundRoomFinding}
 use Rattle.gh_poll.specs.declared.give.GiveStage.{GiveStage}
-use Rattle.gh_poll.specs.declared.give.GiveStage.TheVariants as give_stage
 use Rattle.gh_poll.specs.declared.leave.LeaveStage.{LeaveStage}
-use Rattle.gh_poll.specs.declared.leave.LeaveStage.TheVariants as leave_stage
 use Rattle.gh_poll.specs.declared.poll.PollStage.{PollStage}
-use Rattle.gh_poll.specs.declared.poll.PollStage.TheVariants as poll_stage
 use Rattle.gh_poll.specs.declared.wait.WaitStage.{WaitStage}
-use Rattle.gh_poll.specs.declared.wait.WaitStage.TheVariants as wait_stage
 use Rattle.gh_poll.specs.Give.{Giving, none_cached, span_class}
-use Rattle.gh_poll.specs.Local.{cached_in, register_at}
 use Rattle.gh_mutator_heap.specs.PollWithin.{ScansWithin}
-use Rattle.gh_mutator.specs.Vocabulary.{CachedSpan, IsOf, Leaving, MOST_GOROUTINES, Polling, REGISTERS, Small, SpanClass, Waiting}
-use Rattle.gh_mutator_heap.specs.Vocabulary.{Arena, Means, Right, SPAN_CLASSES, View}
+use Rattle.gh_mutator.specs.Vocabulary.{CachedSpan}
+use Rattle.gh_class.specs.declared.class.TheConstants.{SPAN_CLASSES}
 
 -- Between two operations.
 
@@ -73,13 +65,13 @@ Has a v locked held = Right a v locked held None
 
 -- while it gives back, from a span class on
 abbrev pub give_held_at : List (Option CachedSpan) → GiveStage → ℕ → Bool
-give_held_at cache (give_stage.GiveSpan class s) = lists (drop class cache)
-give_held_at cache give_stage.Unlock = no_page
+give_held_at cache (GiveStage.GiveSpan class s) = lists (drop class cache)
+give_held_at cache GiveStage.Unlock = no_page
 give_held_at cache _ = lists cache
 
 abbrev pub give_locked_at : GiveStage → Bool
-give_locked_at (give_stage.GiveSpan class s) = true
-give_locked_at give_stage.Unlock = true
+give_locked_at (GiveStage.GiveSpan class s) = true
+give_locked_at GiveStage.Unlock = true
 give_locked_at _ = false
 
 abbrev pub give_held : Giving → ℕ → Bool
@@ -89,11 +81,11 @@ abbrev pub give_locked : Giving → Bool
 give_locked g = give_locked_at g.stage
 
 abbrev pub poll_held_at : List (Option CachedSpan) → PollStage → ℕ → Bool
-poll_held_at cache (poll_stage.Giving g stops) = give_held g
+poll_held_at cache (PollStage.Giving g stops) = give_held g
 poll_held_at cache _ = lists cache
 
 abbrev pub poll_locked_at : PollStage → Bool
-poll_locked_at (poll_stage.Giving g stops) = give_locked g
+poll_locked_at (PollStage.Giving g stops) = give_locked g
 poll_locked_at _ = false
 
 abbrev pub poll_held : Polling → ℕ → Bool
@@ -104,11 +96,11 @@ poll_locked p = poll_locked_at p.stage
 
 -- a wait holds what its processor does
 abbrev pub waits_held_at : Polling → WaitStage → ℕ → Bool
-waits_held_at p wait_stage.Polling = poll_held p
+waits_held_at p WaitStage.Polling = poll_held p
 waits_held_at p _ = lists p.local.cache
 
 abbrev pub waits_locked_at : Polling → WaitStage → Bool
-waits_locked_at p wait_stage.Polling = poll_locked p
+waits_locked_at p WaitStage.Polling = poll_locked p
 waits_locked_at p _ = false
 
 abbrev pub waits_held : Waiting → ℕ → Bool
@@ -118,11 +110,11 @@ abbrev pub waits_locked : Waiting → Bool
 waits_locked w = waits_locked_at w.poll w.wait.stage
 
 abbrev pub leave_held_at : LeaveStage → ℕ → Bool
-leave_held_at (leave_stage.Giving g) = give_held g
+leave_held_at (LeaveStage.Giving g) = give_held g
 leave_held_at _ = no_page
 
 abbrev pub leave_locked_at : LeaveStage → Bool
-leave_locked_at (leave_stage.Giving g) = give_locked g
+leave_locked_at (LeaveStage.Giving g) = give_locked g
 leave_locked_at _ = false
 
 abbrev pub leave_held : Leaving → ℕ → Bool
@@ -144,11 +136,11 @@ pub record GivesSpan (a : ℕ) (v : View) (cache : List (Option CachedSpan)) (cl
   pub caches : CachesFrom a v cache class
 
 abbrev pub GiveStageFacts : Arena → (a : ℕ) → View → Giving → GiveStage → Type 0
-GiveStageFacts z a v g give_stage.Lock = CachesFrom a v g.cache 0
-GiveStageFacts z a v g (give_stage.GiveSpan class s) = GivesSpan a v g.cache class s
-GiveStageFacts z a v g give_stage.Unlock = Unit {0}
-GiveStageFacts z a v g (give_stage.GiveBuffer b) = (g.cache ≡ none_cached) × SoundGiveStage z.layout b.stage
-GiveStageFacts z a v g give_stage.Ended = (g.cache ≡ none_cached) × (g.held ≡ None)
+GiveStageFacts z a v g GiveStage.Lock = CachesFrom a v g.cache 0
+GiveStageFacts z a v g (GiveStage.GiveSpan class s) = GivesSpan a v g.cache class s
+GiveStageFacts z a v g GiveStage.Unlock = Unit {0}
+GiveStageFacts z a v g (GiveStage.GiveBuffer b) = (g.cache ≡ none_cached) × SoundGiveStage z.layout b.stage
+GiveStageFacts z a v g GiveStage.Ended = (g.cache ≡ none_cached) × (g.held ≡ None)
 
 -- the giving back, which writes the sweep generation
 pub record GiveFacts (z : Arena) (a : ℕ) (v : View) (g : Giving) : Type 0 where
@@ -160,8 +152,8 @@ pub record GiveFacts (z : Arena) (a : ℕ) (v : View) (g : Giving) : Type 0 wher
 
 -- going on after a stop: the sweep generation, once it is loaded
 abbrev pub HasLoaded : View → PhaseView → ResumeStage → Type 0
-HasLoaded v known resume_stage.LoadBegun = known.generation ≡ v.generation
-HasLoaded v known (resume_stage.Ended another_cycle) = known.generation ≡ v.generation
+HasLoaded v known ResumeStage.LoadBegun = known.generation ≡ v.generation
+HasLoaded v known (ResumeStage.Ended another_cycle) = known.generation ≡ v.generation
 HasLoaded v known _ = Unit {0}
 
 pub record ResumeFacts (a : ℕ) (v : View) (p : Polling) (r : resume.Resuming) : Type 0 where
@@ -171,10 +163,10 @@ pub record ResumeFacts (a : ℕ) (v : View) (p : Polling) (r : resume.Resuming) 
   pub loaded : HasLoaded v r.view r.stage
 
 abbrev pub PollStageFacts : Arena → (a : ℕ) → View → Polling → PollStage → Type 0
-PollStageFacts z a v p (poll_stage.Giving g stops) = GiveFacts z a v g
-PollStageFacts z a v p (poll_stage.Resuming r) = ResumeFacts a v p r
-PollStageFacts z a v p (poll_stage.Marking g m) = KnowsSpans a v p × ScansWithin z.layout m
-PollStageFacts z a v p (poll_stage.FindRoom r) = KnowsSpans a v p × SoundRoomFinding z.layout r
+PollStageFacts z a v p (PollStage.Giving g stops) = GiveFacts z a v g
+PollStageFacts z a v p (PollStage.Resuming r) = ResumeFacts a v p r
+PollStageFacts z a v p (PollStage.Marking g m) = KnowsSpans a v p × ScansWithin z.layout m
+PollStageFacts z a v p (PollStage.FindRoom r) = KnowsSpans a v p × SoundRoomFinding z.layout r
 PollStageFacts z a v p _ = KnowsSpans a v p
 
 pub record PollFacts (z : Arena) (a : ℕ) (v : View) (p : Polling) : Type 0 where
@@ -183,7 +175,7 @@ pub record PollFacts (z : Arena) (a : ℕ) (v : View) (p : Polling) : Type 0 whe
 
 -- a wait: while it polls it knows what the poll does
 abbrev pub WaitStageFacts : Arena → (a : ℕ) → View → Polling → WaitStage → Type 0
-WaitStageFacts z a v p wait_stage.Polling = PollFacts z a v p
+WaitStageFacts z a v p WaitStage.Polling = PollFacts z a v p
 WaitStageFacts z a v p _ = Rests z a v p
 
 abbrev pub WaitFacts : Arena → (a : ℕ) → View → Waiting → Type 0
@@ -191,7 +183,7 @@ WaitFacts z a v w = WaitStageFacts z a v w.poll w.wait.stage
 
 -- a leave: its processor has handed it all that it held
 abbrev pub LeaveStageFacts : Arena → (a : ℕ) → View → LeaveStage → Type 0
-LeaveStageFacts z a v (leave_stage.Giving g) = GiveFacts z a v g
+LeaveStageFacts z a v (LeaveStage.Giving g) = GiveFacts z a v g
 LeaveStageFacts z a v _ = Unit {0}
 
 pub record LeaveFacts (z : Arena) (a : ℕ) (v : View) (p : Polling) (x : Leaving) : Type 0 where

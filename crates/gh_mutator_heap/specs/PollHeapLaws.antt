@@ -1,15 +1,10 @@
 -- A poll, a wait and a leave beside any number of others: each begins with what is known between two operations; each of its steps is a move that the rights of its seat allow, on a word that there is, and leaves the heap that never frees as it is; what is known lasts whatever others do, and at a stop also while spans are swept; and so it ends.
 use Rattle.std.specs.Prelude.{◌≡◌, ℕ, Bool, false}
-use Rattle.gh_base.specs.Cells.{InRange}
-use Rattle.gh_heap.specs.Moves.{KeepsObjects, Others, Steps}
-use Rattle.gh_phase.specs.Shakes.{IsParked}
+use Rattle.gh_mutator_heap.specs.Vocabulary.{Arena, cell_of, Good, InRange, IsParked, KeepsObjects, Leaving, leaving, Others, Polling, Shared, Steps, View, view, Waiting, with_nothing}
 use Rattle.gh_poll.specs.Handshake.{leaves_at, poll_stage_of, wait_stage_of}
 use Rattle.gh_poll.specs.Leave as leave
-use Rattle.gh_poll.specs.Local.{leaving, with_nothing}
 use Rattle.gh_poll.specs.Poll as poll
 use Rattle.gh_mutator_heap.specs.PollHeap.{Has, KeepsGhosts, LeaveFacts, PollFacts, Rests, KnowsAtAnyTime, WaitFacts, leave_held, leave_locked, lists, no_page, poll_held, poll_locked, waits_held, waits_locked}
-use Rattle.gh_mutator.specs.Vocabulary.{Leaving, Polling, Waiting, cell_of}
-use Rattle.gh_mutator_heap.specs.Vocabulary.{Arena, Good, Shared, View, view}
 use Rattle.gh_poll.specs.Wait as wait
 
 -- between two operations, with no lock and what is cached

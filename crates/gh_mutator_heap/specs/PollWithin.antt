@@ -1,10 +1,7 @@
 -- The scan of a stack asks for words that there are: what is known of its numbers, whatever it is told.
 use Rattle.std.specs.Prelude.{◌<◌}
-use Rattle.gh_base.specs.declared.layout.Layout.{Layout}
-use Rattle.gh_base.specs.Cells.{seats_of}
-use Rattle.gh_base.specs.Holding.{IsHeld}
+use Rattle.gh_mutator_heap.specs.Vocabulary.{IsHeld, Layout, seats_of, SoundRoomFinding}
 use Rattle.gh_shade.specs.Sound.{SoundShading}
-use Rattle.gh_wbuf.specs.Sound.{SoundRoomFinding}
 use Rattle.gh_poll.specs.declared.mark_stack.MarkStackStage.{MarkStackStage}
 use Rattle.gh_poll.specs.declared.mark_stack.MarkStackStage.TheVariants.{Shading, FindRoom}
 use Rattle.gh_poll.specs.MarkStack.{StackMarking}

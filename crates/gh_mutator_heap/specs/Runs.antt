@@ -1,22 +1,12 @@
 -- A processor among any number of processors: what it begins begins well, each of its steps is a move that its rights allow, on a word that there is, and what is known of it lasts whatever others do, and whatever is done to the words while it is parked.
 use Rattle.std.specs.Prelude.{◌≡◌, ℕ, ◌<◌, true, false, ◌++◌, Option, Some, None}
-use Rattle.std.specs.Option.{option_to_list}
-use Rattle.gh_base.specs.Cells.{InRange}
-use Rattle.gh_model.specs.Ever.{opening_ever}
-use Rattle.gh_phase.specs.Shakes.{IsParked}
+use Rattle.gh_mutator_heap.specs.Vocabulary.{acts, Answer, Arena, asks, cell_of, effect, given_at, gives, Good, InRange, is_busy_at, IsParked, Op, opening_ever, opening_processor, option_to_list, point_of, Processor, processor_kind, Shared, Steps, sweep_in, Sweeping, View, view}
 use Rattle.gh_phase.specs.Views.{first_view}
-use Rattle.gh_mutator.specs.Vocabulary.{Answer, cell_of, Op}
-use Rattle.gh_mutator_heap.specs.Vocabulary.{Arena, Good, Shared, Steps, SweepLeaves, View, view, Processor}
-use Rattle.gh_mutator.specs.Deeds.{given_at, point_of, processor_kind}
+use Rattle.gh_central.specs.Sweeping.{SweepLeaves}
 use Rattle.gh_mutator_heap.specs.Facts.{Does, ProcessorFacts, Lasts, MayBegin, ShapesAreGood, answered_at}
-use Rattle.gh_mutator.specs.Listing.{acts, asks, gives, is_busy_at}
 use Rattle.gh_mutator_heap.specs.PollHeap.{Has, KeepsGhosts, KnowsAtAnyTime, no_page}
-use Rattle.gh_mutator.specs.Processor.{opening_processor}
 use Rattle.gh_mutator.specs.ProcessorPlaces.{stage_of}
 use Rattle.gh_mutator.specs.Serving.{has_left_at}
-use Rattle.gh_mutator.specs.Sweeping.{sweep_in}
-use Rattle.gh_sweep.specs.Listing.{Sweeping}
-use Rattle.gh_base.specs.Steps.{effect}
 
 -- before its first step, at its seat in a heap that opens, where it holds nothing
 abbrev pub Opens : Type 0

@@ -1,14 +1,8 @@
 -- A processor sweeps a span where its search for a slot does, and begins a sweep where it finds the head of an unswept span.
 use Rattle.std.specs.Prelude.{◌≡◌, ℕ, true, List, Option, Some, None}
-use Rattle.gh_sweep.specs.Listing.{is_busy, Sweeping}
+use Rattle.gh_mutator_heap.specs.Vocabulary.{Answer, Arena, asks, is_busy, Layout, Op, opening_processor, Processor, processor_kind, Shape, sweep_in, Sweeping, takes, View}
 use Rattle.gh_sweep.specs.Running.{BeginsSweep, SweepsOn}
-use Rattle.gh_mutator.specs.Deeds.{processor_kind}
 use Rattle.gh_mutator_heap.specs.Facts.{ProcessorFacts}
-use Rattle.gh_mutator.specs.Listing.{asks, takes}
-use Rattle.gh_mutator.specs.Processor.{opening_processor}
-use Rattle.gh_mutator.specs.Vocabulary.{Answer, Layout, Op, Shape}
-use Rattle.gh_mutator_heap.specs.Vocabulary.{Arena, View, Processor}
-use Rattle.gh_mutator.specs.Sweeping.{sweep_in}
 
 pub record ProcessorsRunSweeps : Type 0 where
   -- before its first step it runs none, and no operation begins with one

@@ -1,43 +1,31 @@
 -- Each operation that neither makes an object nor polls nor leaves ends after a few steps: each step leaves fewer.
 use Rattle.std.proofs.Common.{◌≡◌, ℕ, zero, suc, ◌+◌, ◌≤◌, Bool, true, false, not, List, refl, sym, ap, subst, ◌∙◌, arith}
-use Rattle.gh_mutator.specs.Vocabulary.{EndsWithin, Op, Shape}
-use Rattle.gh_mutator.specs.declared.load.Load.{Load}
-use Rattle.gh_mutator.specs.declared.store.Store.{Store}
-use Rattle.gh_mutator_writes.specs.Vocabulary.{Processor}
-use Rattle.gh_mutator_writes.proofs.Vocabulary.{Global, Task, Then}
-use Rattle.gh_mutator.specs.declared.task.Task.TheVariants as task
+use Rattle.gh_mutator_writes.proofs.Vocabulary.{begins, begins_at, begun_with, EndsWithin, follows, Global, goes, GoesTo, is_busy_at, Layout, listing, Load, marking_at, Mutating, Op, Processor, register_of, Shape, Store, takes_at, Task, Then, told_first}
 use Rattle.gh_barrier.specs.Ending.{WritingEnds}
 use Rattle.gh_mutator.specs.Ending.{may_wait, most_steps, OperationsEnd}
-use Rattle.gh_mutator.specs.Listing.{begins_at, begun_with, follows, is_busy_at, takes_at}
-use Rattle.gh_poll.specs.Local.{marking_at}
-use Rattle.gh_mutator.specs.Mutating.{begins, goes, listing, Mutating}
-use Rattle.gh_mutator.specs.Processor.{register_of}
 use Rattle.gh_mutator.proofs.GlobalSteps as global
 use Rattle.gh_mutator.proofs.LoadSteps as load
-use Rattle.gh_mutator.proofs.Steps.{GoesTo}
 use Rattle.gh_mutator.proofs.StoreSteps as store
-use Rattle.gh_mutator.proofs.Telling.{told_first}
-use Rattle.gh_base.specs.declared.layout.Layout.{Layout}
 
 -- how many steps are left at most, where no object is made, by whether marking is on
 abbrev left : (marking : Bool) → Task → ℕ
-left marking task.Idle = 0
-left marking task.Left = 0
-left marking (task.Load x) = load.left x
-left marking (task.Store x) = store.left marking x
-left marking (task.Global x) = global.left x
-left marking (task.Register x) = 1
-left marking (task.End g) = 1
+left marking Task.Idle = 0
+left marking Task.Left = 0
+left marking (Task.Load x) = load.left x
+left marking (Task.Store x) = store.left marking x
+left marking (Task.Global x) = global.left x
+left marking (Task.Register x) = 1
+left marking (Task.End g) = 1
 left marking _ = 0
 
 -- it may take many
 abbrev is_long : Task → Bool
-is_long (task.New x) = true
-is_long (task.Gc g x) = true
-is_long task.Poll = true
-is_long (task.Leave x) = true
-is_long (task.Store x) = not (store.writes_on x.stage)
-is_long (task.Global x) = not (global.writes_on x.stage)
+is_long (Task.New x) = true
+is_long (Task.Gc g x) = true
+is_long Task.Poll = true
+is_long (Task.Leave x) = true
+is_long (Task.Store x) = not (store.writes_on x.stage)
+is_long (Task.Global x) = not (global.writes_on x.stage)
 is_long _ = false
 
 -- a step leaves fewer, and not many
@@ -52,13 +40,13 @@ Plain marking into most then = GoesTo (λ y. (is_long (into y) ≡ false) × (le
 from_step : (marking : Bool) {S : Type 0} (into : S → Task) (t : Task) (then : Then S) → 1 ≤ left marking t → Plain marking into (left marking t) then → Fewer marking t (follows into then)
 from_step marking into t then some h = grind arith
 
-load_plain : (marking : Bool) (most : ℕ) (then : Then Load) → GoesTo (λ (y : Load). load.left y + 1 ≤ most) then → Plain marking task.Load most then
+load_plain : (marking : Bool) (most : ℕ) (then : Then Load) → GoesTo (λ (y : Load). load.left y + 1 ≤ most) then → Plain marking Task.Load most then
 load_plain marking most then h = grind arith
 
-store_plain : (marking : Bool) (most : ℕ) (then : Then Store) → store.Left marking most then → Plain marking task.Store most then
+store_plain : (marking : Bool) (most : ℕ) (then : Then Store) → store.Left marking most then → Plain marking Task.Store most then
 store_plain marking most then h = grind arith
 
-global_plain : (marking : Bool) (most : ℕ) (then : Then Global) → global.Left most then → Plain marking task.Global most then
+global_plain : (marking : Bool) (most : ℕ) (then : Then Global) → global.Left most then → Plain marking Task.Global most then
 global_plain marking most then h = grind arith
 
 on : (b : Bool) → not b ≡ false → b ≡ true
@@ -69,11 +57,11 @@ module _ (l : Layout) (ends_so : WritingEnds) (shapes : List Shape) where
   marks m = marking_at m.poll
 
   fewer_at : (m : Processor) (t : Task) (found : ℕ) → is_long t ≡ false → is_busy_at t ≡ true → Fewer (marks m) t (takes_at l shapes m t found).task
-  fewer_at m (task.Load x) found plain busy = let h = load.nears l x found in from_step (marks m) task.Load (task.Load x) _ h.0 (load_plain (marks m) _ _ h.1)
-  fewer_at m (task.Store x) found plain busy = let h = store.nears ends_so l m.poll.local (register_of m x.g x.v) x found (on _ plain) in from_step (marks m) task.Store (task.Store x) _ h.0 (store_plain (marks m) _ _ h.1)
-  fewer_at m (task.Global x) found plain busy = let h = global.nears ends_so l (register_of m x.g x.r) x found (on _ plain) in from_step (marks m) task.Global (task.Global x) _ h.0 (global_plain (marks m) _ _ h.1)
-  fewer_at m (task.Register x) found plain busy = record { plain = refl; fewer = omega arith }
-  fewer_at m (task.End g) found plain busy = record { plain = refl; fewer = omega arith }
+  fewer_at m (Task.Load x) found plain busy = let h = load.nears l x found in from_step (marks m) Task.Load (Task.Load x) _ h.0 (load_plain (marks m) _ _ h.1)
+  fewer_at m (Task.Store x) found plain busy = let h = store.nears ends_so l m.poll.local (register_of m x.g x.v) x found (on _ plain) in from_step (marks m) Task.Store (Task.Store x) _ h.0 (store_plain (marks m) _ _ h.1)
+  fewer_at m (Task.Global x) found plain busy = let h = global.nears ends_so l (register_of m x.g x.r) x found (on _ plain) in from_step (marks m) Task.Global (Task.Global x) _ h.0 (global_plain (marks m) _ _ h.1)
+  fewer_at m (Task.Register x) found plain busy = record { plain = refl; fewer = omega arith }
+  fewer_at m (Task.End g) found plain busy = record { plain = refl; fewer = omega arith }
   fewer_at m _ found plain busy = absurd (cc)
 
   marks_stay : (m : Processor) (t : Task) (found : ℕ) → is_long t ≡ false → is_busy_at t ≡ true → marks (takes_at l shapes m t found) ≡ marks m

@@ -1,19 +1,11 @@
 -- A `new` that is answered `full` has waited for a cycle, and has found no slot before and behind that.
 use Rattle.std.proofs.Common.{◌≡◌, ℕ, zero, suc, ◌<◌, ◌≤◌, Bool, true, false, not, List, [], ◌∷◌, get_or, refl, sym, ap, ◌∙◌, subst, ◌⊎◌, inl, inr, Option, Some, None, arith}
-use Rattle.gh_base.specs.declared.operation.Op.TheVariants as op
-use Rattle.gh_base.specs.declared.value.Answer.TheVariants as answer
-use Rattle.gh_base.specs.declared.value.Value.TheVariants as value
+use Rattle.std.proofs.Math.ListN.{set}
+use Rattle.gh_mutator_writes.proofs.Vocabulary.{after_search, after_wait, Answer, answer_search, Assist, At, at_poll, begins, cache_span, cache_with, cached_in, CachedSpan, ends_later, Found, gives, gives_at, goes, Layout, listing, marks_after, Mutating, NewStage, NoRoom, Op, Place, Polling, Processor, rested, Search, search_wants, Seeking, seeking, Small, Sought, stacks_with, Task, Value, Wait, wait_seat, wait_stacks, Waiting, WaitStage, WaitState, Want, Wanted, wanted_of}
 use Rattle.gh_alloc.specs.Search as search
-use Rattle.gh_mutator.specs.declared.task.Task.TheVariants as task
-use Rattle.gh_mutator_writes.specs.Full.{after, FullChangesLittle, HasWaited, new_is_waiting}
-use Rattle.gh_poll.specs.Local.{cached_in, stacks_with}
-use Rattle.gh_mutator.specs.Mutating.{asks, begins, gives, goes, listing, marks_after, Mutating}
-use Rattle.gh_mutator.specs.New.{seeking}
-use Rattle.gh_poll.specs.Stays.{ends_later, wait_seat, wait_stacks}
-use Rattle.gh_mutator.specs.Stays.{search_wants}
-use Rattle.gh_mutator.specs.Vocabulary.{Polling}
+use Rattle.gh_mutator_writes.specs.Full.{after, FullChangesLittle, HasWaited, new_is_waiting, is_looking}
+use Rattle.gh_mutator.specs.Mutating.{asks}
 use Rattle.gh_poll.specs.Wait as wait
-use Rattle.gh_mutator_writes.proofs.Vocabulary.{Assist, after_search, after_wait, answer_search, At, at_poll, cache_span, cache_with, CachedSpan, Found, gives_at, is_looking, Layout, NewStage, NoRoom, Place, Processor, rested, Search, Seeking, set, Small, Sought, Task, Wait, Waiting, WaitStage, WaitState, Wanted, wanted_of, Want}
 use Rattle.gh_mutator_writes.proofs.Refusing.{KeptFor, kept, kept_first, refuses_none}
 use Rattle.gh_mutator_writes.proofs.Telling.{held_before}
 
@@ -37,15 +29,15 @@ is_over (Assist n x) = true
 is_over _ = false
 
 abbrev is_past : Task → Bool
-is_past task.Idle = true
-is_past (task.New x) = is_over x.stage
+is_past Task.Idle = true
+is_past (Task.New x) = is_over x.stage
 is_past _ = false
 
-past_answers : (l : Layout) (m : Processor) (t : Task) (v : ℕ) → is_past t ≡ true → gives_at l m t v ≡ Some answer.Full → ⊥
+past_answers : (l : Layout) (m : Processor) (t : Task) (v : ℕ) → is_past t ≡ true → gives_at l m t v ≡ Some Answer.Full → ⊥
 past_answers l m t v e h = grind arith
 
 -- `full` is answered behind the wait alone
-full_is : (waited : Bool) (out : Option Found) → answer_search waited out ≡ Some answer.Full → (waited ≡ true) × (out ≡ Some NoRoom)
+full_is : (waited : Bool) (out : Option Found) → answer_search waited out ≡ Some Answer.Full → (waited ≡ true) × (out ≡ Some NoRoom)
 full_is waited out e = grind arith
 
 module _ (l : Layout) (m : Mutating) (g d t : ℕ) (found : ℕ → ℕ) where
@@ -57,7 +49,7 @@ module _ (l : Layout) (m : Mutating) (g d t : ℕ) (found : ℕ → ℕ) where
 
   -- the machine at this stage, with this poll
   abbrev state : Polling → NewStage → Mutating
-  state p s = record m { processor = record (m.processor) { poll = p; task = task.New (record { wanted = w; stage = s }) } }
+  state p s = record m { processor = record (m.processor) { poll = p; task = Task.New (record { wanted = w; stage = s }) } }
 
   record Seeks (s : Seeking) : Type 0 where
     wanted : s.find.wanted ≡ w.sought
@@ -166,15 +158,15 @@ module _ (l : Layout) (m : Mutating) (g d t : ℕ) (found : ℕ → ℕ) where
   -- what the step leaves that answers `full`
   record Leaves (n : ℕ) (x : Mutating) : Type 0 where
     waited : HasWaited l m g d t found n
-    rests : x ≡ rested m (at_poll m.processor x.processor.poll) answer.Full
-    registers : x.processor.poll.local.stacks ≡ stacks_with m.processor.poll.local.stacks g d value.Nil
+    rests : x ≡ rested m (at_poll m.processor x.processor.poll) Answer.Full
+    registers : x.processor.poll.local.stacks ≡ stacks_with m.processor.poll.local.stacks g d Value.Nil
     cached : cached_in x.processor.poll.local.cache w.sought ≡ None
     seat : x.processor.poll.seat ≡ m.processor.poll.seat
 
   full_leaves : (n : ℕ) (p : Polling) (s r : Seeking) (waited : Bool) (out : Option Found) → Same p → Facts n p (Search waited s) → waited ≡ true → out ≡ Some NoRoom → ((k : _) → w.sought ≡ Small k → r.find.cached ≡ None) → Leaves n (searched p waited s r out)
   full_leaves n p s r waited out k f h is none = grind (arith, none_in)
 
-  leaves_at : (n : ℕ) (p : Polling) (s : NewStage) → Same p → Facts n p s → gives l (state p s) (found n) ≡ Some answer.Full → Leaves n (goes l (state p s) (found n))
+  leaves_at : (n : ℕ) (p : Polling) (s : NewStage) → Same p → Facts n p s → gives l (state p s) (found n) ≡ Some Answer.Full → Leaves n (goes l (state p s) (found n))
   leaves_at n p (Search waited s) k f e =
       let is = full_is waited (search.gives l s (found n)) e in
       full_leaves n p s (search.goes l s (found n)) waited (search.gives l s (found n)) k f is.0 is.1 (λ c small. refuses_none w.sought (search.goes l s (found n)) c small is.1 (seeks_on s (found n) (seeks waited f)).kept) where
@@ -186,8 +178,8 @@ module _ (l : Layout) (m : Mutating) (g d t : ℕ) (found : ℕ → ℕ) where
   leaves_at n p (Want u) k f e = absurd f
   leaves_at n p (Assist u x) k f e = absurd f
 
-  leaves : (n : ℕ) → Stands n (now n) → gives l (now n) (found n) ≡ Some answer.Full → Leaves n (now (suc n))
-  leaves n st e = subst (λ (x : Mutating). Leaves n (goes l x (found n))) (sym st.is) (leaves_at n st.p st.s st.same st.facts (subst (λ (x : Mutating). gives l x (found n) ≡ Some answer.Full) st.is e))
+  leaves : (n : ℕ) → Stands n (now n) → gives l (now n) (found n) ≡ Some Answer.Full → Leaves n (now (suc n))
+  leaves n st e = subst (λ (x : Mutating). Leaves n (goes l x (found n))) (sym st.is) (leaves_at n st.p st.s st.same st.facts (subst (λ (x : Mutating). gives l x (found n) ≡ Some Answer.Full) st.is e))
 
 not_past : (b : Bool) → (b ≡ true → ⊥) → not b ≡ true
 not_past b h = grind arith
@@ -200,7 +192,7 @@ full_changes_little l m g d t found n e =
     let last = after l m g d t found n in
     let here : not (is_past (after l m g d t found n).processor.task) ≡ true = not_past (is_past last.processor.task) (λ h. past_answers l last.processor last.processor.task (found n) h e) in
     let all : (i : ℕ) → i ≤ n → not (is_past (after l m g d t found i).processor.task) ≡ true =
-    held_before (λ (x : Mutating). not (is_past x.processor.task)) (listing l) (begins m (op.New g d t)) found (past_before l) n here in
+    held_before (λ (x : Mutating). not (is_past x.processor.task)) (listing l) (begins m (Op.New g d t)) found (past_before l) n here in
     let at : (i : ℕ) → i ≤ n → Stands l m g d t found i (after l m g d t found i) = λ i le. runs l m g d t found i (λ j before. all j (omega arith)) in
     let left = leaves l m g d t found n (at n (omega arith)) e in
     record {

@@ -1,12 +1,12 @@
 -- What the search for a slot asks for, and that it has no span cached where it refuses.
 use Rattle.std.proofs.Common.{◌≡◌, ℕ, Bool, cond, Option, Some, None, arith}
-use Rattle.gh_mutator.specs.Vocabulary.{SpanClass}
+use Rattle.gh_mutator_writes.proofs.Vocabulary.{CachedSpan, Large, Layout, NoRoom, Seeking, Small, Sought}
+use Rattle.gh_mutator.specs.Vocabulary.{SpanClass, Finding, FindStage}
 use Rattle.gh_alloc.specs.declared.find.After.TheVariants.{End}
-use Rattle.gh_alloc.specs.declared.find.FindStage.TheVariants as seek
-use Rattle.gh_alloc.specs.declared.search.SearchStage.TheVariants as search_stage
 use Rattle.gh_alloc.specs.Find as find
 use Rattle.gh_alloc.specs.Search as search
-use Rattle.gh_mutator_writes.proofs.Vocabulary.{CachedSpan, Finding, FindStage, Large, Layout, NoRoom, Reclaiming, SearchStage, Seeking, Small, Sought}
+use Rattle.gh_central.specs.Reclaim.{Reclaiming}
+use Rattle.gh_alloc.specs.declared.search.SearchStage.{SearchStage}
 
 -- ---- the search
 
@@ -14,11 +14,11 @@ use Rattle.gh_mutator_writes.proofs.Vocabulary.{CachedSpan, Finding, FindStage, 
 
 -- no span is cached from the pass on, for an object of a size class
 abbrev NoneCached : FindStage → Option CachedSpan → Type 0
-NoneCached (seek.Pass p) cached = cached ≡ None
-NoneCached (seek.Unswept u) cached = cached ≡ None
-NoneCached (seek.Carve c) cached = cached ≡ None
-NoneCached (seek.Unlock (End NoRoom)) cached = cached ≡ None
-NoneCached (seek.Ended NoRoom) cached = cached ≡ None
+NoneCached (FindStage.Pass p) cached = cached ≡ None
+NoneCached (FindStage.Unswept u) cached = cached ≡ None
+NoneCached (FindStage.Carve c) cached = cached ≡ None
+NoneCached (FindStage.Unlock (End NoRoom)) cached = cached ≡ None
+NoneCached (FindStage.Ended NoRoom) cached = cached ≡ None
 NoneCached _ cached = Unit {0}
 
 abbrev Kept : Finding → Type 0
@@ -26,7 +26,7 @@ Kept f = NoneCached f.stage f.cached
 
 -- the search where a collector runs: no span is cached while empty spans are freed
 abbrev KeptAt : Finding → SearchStage → Type 0
-KeptAt f (search_stage.Free r) = f.cached ≡ None
+KeptAt f (SearchStage.Free r) = f.cached ≡ None
 KeptAt f _ = Kept f
 
 abbrev pub KeptFor : Sought → Seeking → Type 0
@@ -36,7 +36,7 @@ KeptFor (Large pages noscan) s = Unit {0}
 first_kept : (f : Finding) → Kept f → KeptAt f (search.after_first f)
 first_kept f h = grind arith
 
-second_kept : (f : Finding) (b : Bool) → Kept f → KeptAt f (cond b search_stage.First search_stage.Second)
+second_kept : (f : Finding) (b : Bool) → Kept f → KeptAt f (cond b SearchStage.First SearchStage.Second)
 second_kept f b h = grind arith
 
 module _ (c : SpanClass) where

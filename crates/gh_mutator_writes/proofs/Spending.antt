@@ -1,28 +1,19 @@
 -- A processor counts as spent what it takes out of the bank: by its tasks.
 use Rattle.std.proofs.Common.{◌≡◌, ℕ, ◌+◌, ◌^◌, ◌<◌, Bool, true, false, List, Option, refl, ◌∙◌, arith}
+use Rattle.gh_mutator_writes.proofs.Vocabulary.{after_gc, after_leave, after_place, after_poll, after_search, after_wait, Ask, asks, Assist, assist_spent, Assisting, assists, AssistsPay, cache_span, CachedSpan, follows, Found, is_busy_at, IsAssisting, IsWritten, keeping, Layout, Leaving, marking_at, Name, NewStage, Op, Place, Placing, poll_spent, Polling, Processor, processor_kind, ProcessorWritesItsOwn, register_of, Search, Seeking, Shape, SoundAssist, SoundAssistAt, takes_at, taking, Task, Then, Value, Wait, wait_spent, Waiting, Want, Wanted, WritesOf}
 use Rattle.gh_alloc.specs.Place as place
 use Rattle.gh_alloc.specs.Search as search
 use Rattle.gh_assist.specs.Listing as assist
-use Rattle.gh_assist.specs.Paying.{AssistsPay}
 use Rattle.gh_credit.specs.Drawing.{drawn_by, LeavesOrDraws}
-use Rattle.gh_mutator.specs.declared.task.Task.TheVariants as task
 use Rattle.gh_mutator.specs.Global as global
 use Rattle.gh_poll.specs.Leave as leave
 use Rattle.gh_mutator.specs.Load as load
-use Rattle.gh_poll.specs.Local.{marking_at}
 use Rattle.gh_poll.specs.Poll as poll
-use Rattle.gh_mutator.specs.Processor.{keeping}
 use Rattle.gh_mutator.specs.Register as register
 use Rattle.gh_mutator_writes.specs.Spending.{ProcessorsSpend}
 use Rattle.gh_mutator.specs.Spending.{spent_in_task, spent_of}
-use Rattle.gh_poll.specs.Stays.{poll_spent, wait_spent}
-use Rattle.gh_mutator.specs.Stays.{assist_spent}
 use Rattle.gh_mutator.specs.Store as store
-use Rattle.gh_mutator.specs.Vocabulary.{Polling}
 use Rattle.gh_poll.specs.Wait as wait
-use Rattle.gh_mutator.specs.Running.{IsAssisting, SoundAssist, SoundAssistAt}
-use Rattle.gh_mutator_writes.specs.Writing.{IsWritten, ProcessorWritesItsOwn}
-use Rattle.gh_mutator_writes.proofs.Vocabulary.{after_gc, after_leave, after_place, after_poll, after_search, after_wait, Ask, asks, Assist, Assisting, assists, cache_span, CachedSpan, follows, Found, is_busy_at, Layout, Leaving, Name, NewStage, Op, Place, Placing, Processor, processor_kind, register_of, Search, Seeking, Shape, takes_at, taking, Task, Then, Value, Wait, Waiting, Want, Wanted, WritesOf}
 
 -- A step of a processor that does not assist takes nothing out of the bank, and leaves it.
 module _ (l : Layout) (m : Processor) (rests : IsAssisting m.task → ⊥) where
@@ -59,7 +50,7 @@ place_spent : (m : Processor) (w : Wanted) (made : Bool) (a : ℕ) (x : Placing)
 place_spent m w made a x = grind arith
 
 abbrev with_stage : Wanted → NewStage → Task
-with_stage w q = task.New (record { wanted = w; stage = q })
+with_stage w q = Task.New (record { wanted = w; stage = q })
 
 abbrev running : Polling → List ℕ → Task → Processor
 running p made t = record { poll = p; made = made; task = t }
@@ -79,7 +70,7 @@ module _ (l : Layout) (shapes : List Shape) (p : Polling) (made : List ℕ) (fou
     assisted : (w : Wanted) (n : Name) (x : Assisting) → SoundAssistAt p (Assist n x) → x.spent + drawn_by (assist.asks l x) found < 2 ^ 64 → Spends (assists w n x)
     assisted w n x s most = record { spends = assist_spent (running p made (assists w n x)) w n (assist.goes l x found) (assist.gives l x found) ∙ pay.spends l x found s.1 most }
 
-    new_spends : (w : Wanted) (q : NewStage) → let t : Task = task.New (record { wanted = w; stage = q }) in SoundAssistAt p q → WritesOf (IsWritten l (running p made t)) (asks l (running p made t)) → spent_in_task p t + drawn_by (asks l (running p made t)) found < 2 ^ 64 → Spends t
+    new_spends : (w : Wanted) (q : NewStage) → let t : Task = Task.New (record { wanted = w; stage = q }) in SoundAssistAt p q → WritesOf (IsWritten l (running p made t)) (asks l (running p made t)) → spent_in_task p t + drawn_by (asks l (running p made t)) found < 2 ^ 64 → Spends t
     new_spends w (Search waited y) s writes most = plainly (with_stage w (Search waited y)) (λ a. a) writes (search_spent shapes (running p made (with_stage w (Search waited y))) w waited (search.goes l y found).find.cached (search.goes l y found) (search.gives l y found))
     new_spends w (Wait x) s writes most = plainly (with_stage w (Wait x)) (λ a. a) writes (wait_then (running p made (with_stage w (Wait x))) w (wait.goes l (wait.waiting x p) found) (wait.gives l (wait.waiting x p) found) ∙ wait_spent l (wait.waiting x p) found)
     new_spends w (Place y) s writes most = plainly (with_stage w (Place y)) (λ a. a) writes (place_spent (running p made (with_stage w (Place y))) w (place.makes_its_object y) y.at (place.goes y found))
@@ -87,37 +78,37 @@ module _ (l : Layout) (shapes : List Shape) (p : Polling) (made : List ℕ) (fou
     new_spends w (Assist n x) s writes most = assisted w n x s most
 
     spends_at : (t : Task) → SoundAssist p t → is_busy_at t ≡ true → WritesOf (IsWritten l (running p made t)) (asks l (running p made t)) → spent_in_task p t + drawn_by (asks l (running p made t)) found < 2 ^ 64 → Spends t
-    spends_at task.Idle s busy writes most = absurd (cc)
-    spends_at task.Left s busy writes most = absurd (cc)
-    spends_at (task.Load x) s busy writes most = plainly (task.Load x) (λ a. a) writes (let step = load.step l x found in into_spent task.Load (running p made (task.Load x)) x.g x.d step.sets step.then (λ q y. refl))
-    spends_at (task.Store x) s busy writes most = plainly (task.Store x) (λ a. a) writes
-        (let step = store.step l p.local (register_of (running p made (task.Store x)) x.g x.v) x found in into_spent task.Store (keeping (running p made (task.Store x)) (store.held_behind l p.local.held x.stage found)) x.g x.v step.sets step.then (λ q y. refl))
-    spends_at (task.Global x) s busy writes most = plainly (task.Global x) (λ a. a) writes
-        (let step = global.step l (register_of (running p made (task.Global x)) x.g x.r) x found in into_spent task.Global (keeping (running p made (task.Global x)) (global.held_behind l p.local.held x.stage found)) x.g x.r step.sets step.then (λ q y. refl))
-    spends_at (task.Register x) s busy writes most = plainly (task.Register x) (λ a. a) writes (let step = register.step (register_of (running p made (task.Register x)) x.g (register.read_of x)) x in into_spent task.Register (running p made (task.Register x)) x.g x.d step.sets step.then (λ q y. refl))
-    spends_at (task.New x) s busy writes most = new_spends x.wanted x.stage s writes most
-    spends_at (task.Gc g x) s busy writes most = plainly (task.Gc g x) (λ a. a) writes (gc_spent (running p made (task.Gc g x)) g (wait.goes l (wait.waiting x p) found) (wait.gives l (wait.waiting x p) found) ∙ wait_spent l (wait.waiting x p) found)
-    spends_at task.Poll s busy writes most = plainly task.Poll (λ a. a) writes (poll_then (running p made task.Poll) (poll.goes l p found) (poll.gives l p found) ∙ poll_spent l p found)
-    spends_at (task.End g) s busy writes most = plainly (task.End g) (λ a. a) writes refl
-    spends_at (task.Leave x) s busy writes most = plainly (task.Leave x) (λ a. a) writes (leave_spent (running p made (task.Leave x)) (leave.goes x found) (leave.gives x found))
+    spends_at Task.Idle s busy writes most = absurd (cc)
+    spends_at Task.Left s busy writes most = absurd (cc)
+    spends_at (Task.Load x) s busy writes most = plainly (Task.Load x) (λ a. a) writes (let step = load.step l x found in into_spent Task.Load (running p made (Task.Load x)) x.g x.d step.sets step.then (λ q y. refl))
+    spends_at (Task.Store x) s busy writes most = plainly (Task.Store x) (λ a. a) writes
+        (let step = store.step l p.local (register_of (running p made (Task.Store x)) x.g x.v) x found in into_spent Task.Store (keeping (running p made (Task.Store x)) (store.held_behind l p.local.held x.stage found)) x.g x.v step.sets step.then (λ q y. refl))
+    spends_at (Task.Global x) s busy writes most = plainly (Task.Global x) (λ a. a) writes
+        (let step = global.step l (register_of (running p made (Task.Global x)) x.g x.r) x found in into_spent Task.Global (keeping (running p made (Task.Global x)) (global.held_behind l p.local.held x.stage found)) x.g x.r step.sets step.then (λ q y. refl))
+    spends_at (Task.Register x) s busy writes most = plainly (Task.Register x) (λ a. a) writes (let step = register.step (register_of (running p made (Task.Register x)) x.g (register.read_of x)) x in into_spent Task.Register (running p made (Task.Register x)) x.g x.d step.sets step.then (λ q y. refl))
+    spends_at (Task.New x) s busy writes most = new_spends x.wanted x.stage s writes most
+    spends_at (Task.Gc g x) s busy writes most = plainly (Task.Gc g x) (λ a. a) writes (gc_spent (running p made (Task.Gc g x)) g (wait.goes l (wait.waiting x p) found) (wait.gives l (wait.waiting x p) found) ∙ wait_spent l (wait.waiting x p) found)
+    spends_at Task.Poll s busy writes most = plainly Task.Poll (λ a. a) writes (poll_then (running p made Task.Poll) (poll.goes l p found) (poll.gives l p found) ∙ poll_spent l p found)
+    spends_at (Task.End g) s busy writes most = plainly (Task.End g) (λ a. a) writes refl
+    spends_at (Task.Leave x) s busy writes most = plainly (Task.Leave x) (λ a. a) writes (leave_spent (running p made (Task.Leave x)) (leave.goes x found) (leave.gives x found))
 
 -- The draws are those of an assist.
 module _ (l : Layout) (pay : AssistsPay) (p : Polling) (made : List ℕ) where
-  new_draws : (w : Wanted) (q : NewStage) → let m : Processor = running p made (task.New (record { wanted = w; stage = q })) in WritesOf (IsWritten l m) (asks l m) → LeavesOrDraws (asks l m)
+  new_draws : (w : Wanted) (q : NewStage) → let m : Processor = running p made (Task.New (record { wanted = w; stage = q })) in WritesOf (IsWritten l m) (asks l m) → LeavesOrDraws (asks l m)
   new_draws w q writes = grind arith
 
   draws_at : (t : Task) → WritesOf (IsWritten l (running p made t)) (asks l (running p made t)) → LeavesOrDraws (asks l (running p made t))
-  draws_at (task.New x) writes = new_draws x.wanted x.stage writes
-  draws_at task.Idle writes = tt
-  draws_at task.Left writes = tt
-  draws_at (task.Load x) writes = leaves_bank l (running p made (task.Load x)) (λ a. a) (asks l (running p made (task.Load x))) writes
-  draws_at (task.Store x) writes = leaves_bank l (running p made (task.Store x)) (λ a. a) (asks l (running p made (task.Store x))) writes
-  draws_at (task.Global x) writes = leaves_bank l (running p made (task.Global x)) (λ a. a) (asks l (running p made (task.Global x))) writes
-  draws_at (task.Register x) writes = leaves_bank l (running p made (task.Register x)) (λ a. a) (asks l (running p made (task.Register x))) writes
-  draws_at (task.Gc g x) writes = leaves_bank l (running p made (task.Gc g x)) (λ a. a) (asks l (running p made (task.Gc g x))) writes
-  draws_at task.Poll writes = leaves_bank l (running p made task.Poll) (λ a. a) (asks l (running p made task.Poll)) writes
-  draws_at (task.End g) writes = leaves_bank l (running p made (task.End g)) (λ a. a) (asks l (running p made (task.End g))) writes
-  draws_at (task.Leave x) writes = leaves_bank l (running p made (task.Leave x)) (λ a. a) (asks l (running p made (task.Leave x))) writes
+  draws_at (Task.New x) writes = new_draws x.wanted x.stage writes
+  draws_at Task.Idle writes = tt
+  draws_at Task.Left writes = tt
+  draws_at (Task.Load x) writes = leaves_bank l (running p made (Task.Load x)) (λ a. a) (asks l (running p made (Task.Load x))) writes
+  draws_at (Task.Store x) writes = leaves_bank l (running p made (Task.Store x)) (λ a. a) (asks l (running p made (Task.Store x))) writes
+  draws_at (Task.Global x) writes = leaves_bank l (running p made (Task.Global x)) (λ a. a) (asks l (running p made (Task.Global x))) writes
+  draws_at (Task.Register x) writes = leaves_bank l (running p made (Task.Register x)) (λ a. a) (asks l (running p made (Task.Register x))) writes
+  draws_at (Task.Gc g x) writes = leaves_bank l (running p made (Task.Gc g x)) (λ a. a) (asks l (running p made (Task.Gc g x))) writes
+  draws_at Task.Poll writes = leaves_bank l (running p made Task.Poll) (λ a. a) (asks l (running p made Task.Poll)) writes
+  draws_at (Task.End g) writes = leaves_bank l (running p made (Task.End g)) (λ a. a) (asks l (running p made (Task.End g))) writes
+  draws_at (Task.Leave x) writes = leaves_bank l (running p made (Task.Leave x)) (λ a. a) (asks l (running p made (Task.Leave x))) writes
 
 marking_at_task : (p : Polling) (t : Task) → SoundAssist p t → IsAssisting t → marking_at p ≡ true
 marking_at_task p t s is = grind arith

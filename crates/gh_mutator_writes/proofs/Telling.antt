@@ -1,8 +1,7 @@
 -- A machine that is told words: what held at its last step held at each.
 use Rattle.std.proofs.Common.{◌≡◌, ℕ, zero, suc, ◌≤◌, Bool, true, false, eqb, refl, arith}
 use Rattle.std.proofs.lemmas.Bool.{eqb-true}
-use Rattle.std.proofs.lemmas.Bool.Decides.{nat_tests}
-use Rattle.gh_base.specs.Routines.{Listing, told}
+use Rattle.gh_mutator_writes.proofs.Vocabulary.{Listing, nat_tests, told}
 
 -- what holds only where it held before holds from the beginning on
 pub held_before : {M Out : Type 0} (P : M → Bool) (r : Listing M Out) (m : M) (found : ℕ → ℕ) → ((x : M) (word : ℕ) → P (r.goes x word) ≡ true → P x ≡ true) → (n : ℕ) → P (told r m found n) ≡ true → (i : ℕ) → i ≤ n → P (told r m found i) ≡ true

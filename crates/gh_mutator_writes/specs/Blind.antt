@@ -1,26 +1,25 @@
 -- The stores of a processor are blind: whatever word one overwrites, the processor goes over to the same, and the operation is answered the same.
-use Rattle.std.specs.Prelude.{◌≡◌, ℕ, true, List, Option}
-use Rattle.std.proofs.Common.{ap, arith}
+use Rattle.std.proofs.Common.{ap, arith, ◌≡◌, ℕ, true, List, Option}
+use Rattle.gh_mutator_writes.specs.Vocabulary.{after_assist, after_place, after_search, after_wait, answer_assist, answer_made, answer_search, asks_at, gives, gives_at, GlobalStage, goes, Layout, LeaveStage, marking_at, marks_after, Mutating, NewStage, Polling, PollStage, Processor, Shape, StoreStage, takes_at, Task, WaitStage}
 use Rattle.gh_base.specs.Blind.{is_store, StoresAreBlind}
 use Rattle.gh_base.specs.declared.held.Held.{Held}
-use Rattle.gh_poll.specs.declared.leave.LeaveStage.{LeaveStage}
 use Rattle.gh_poll.specs.declared.poll.Local.{Local}
-use Rattle.gh_poll.specs.declared.poll.PollStage.{PollStage}
-use Rattle.gh_poll.specs.declared.wait.WaitStage.{WaitStage}
 use Rattle.gh_mutator.specs.Global as global
 use Rattle.gh_poll.specs.Leave as leave
-use Rattle.gh_mutator.specs.Listing.{asks_at, gives_at, takes_at}
 use Rattle.gh_mutator.specs.Load as load
-use Rattle.gh_mutator.specs.Mutating.{asks, gives, goes, marks_after, Mutating}
-use Rattle.gh_mutator.specs.New.{after_assist, after_place, after_search, after_wait, answer_assist, answer_made, answer_search}
-use Rattle.gh_poll.specs.Local.{marking_at}
+use Rattle.gh_mutator.specs.Mutating.{asks}
 use Rattle.gh_mutator.specs.New as new
 use Rattle.gh_poll.specs.Poll.{after_mark, after_resume, after_room, stops_then}
 use Rattle.gh_poll.specs.Poll as poll
 use Rattle.gh_mutator.specs.Serving.{answer_at}
 use Rattle.gh_mutator.specs.Store as store
-use Rattle.gh_mutator.specs.Vocabulary.{Answer, Layout, Leaving, Polling, Shape, Value, Waiting}
-use Rattle.gh_mutator_writes.specs.Vocabulary.{Global, GlobalStage, Load, LoadStage, NewStage, Processor, Step, Store, StoreStage, Task, Wanted}
+use Rattle.gh_mutator.specs.Vocabulary.{Answer, Leaving, Value, Waiting}
+use Rattle.gh_mutator.specs.declared.global.Global.{Global}
+use Rattle.gh_mutator.specs.declared.load.Load.{Load}
+use Rattle.gh_mutator.specs.declared.load.LoadStage.{LoadStage}
+use Rattle.gh_mutator.specs.declared.step.Step.{Step}
+use Rattle.gh_mutator.specs.declared.store.Store.{Store}
+use Rattle.gh_mutator.specs.declared.new.Wanted.{Wanted}
 use Rattle.gh_poll.specs.Wait as wait
 
 -- ---- giving back, the scan of a stack, a poll, a wait, and leaving

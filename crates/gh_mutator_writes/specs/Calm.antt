@@ -1,27 +1,19 @@
 -- A processor while marking is off: it holds no buffer, knows of no marking, and marks nothing, also no object that it makes.
 use Rattle.std.specs.Prelude.{◌≡◌, ◌≢◌, ℕ, true, false, List, Some, None}
-use Rattle.gh_base.specs.declared.cell.Ask.TheVariants as ask
-use Rattle.gh_base.specs.declared.cell.Cell.TheVariants as cell
+use Rattle.gh_mutator_writes.specs.Vocabulary.{Ask, asks, Assist, Cell, effect, GlobalStage, is_busy_at, IsSweeping, Layout, LeaveStage, NewStage, Op, opening_processor, Place, Polling, PollStage, Processor, processor_kind, Shape, StoreStage, takes, Task, Wait, WaitStage, Words}
 use Rattle.gh_base.specs.Packing.{phase_of}
 use Rattle.gh_alloc.specs.Marking.{IsMadeUnmarked}
 use Rattle.gh_phase.specs.declared.resume.ResumeStage.TheVariants.{Acknowledge, LoadPhase}
-use Rattle.gh_phase.specs.declared.view.RunPhase.TheVariants as run
-use Rattle.gh_phase.specs.Handshake.{Gone, Resumes}
+use Rattle.gh_phase.specs.declared.view.RunPhase.{RunPhase}
+use Rattle.gh_phase.specs.Handshake.{Gone, Resumes, Party, Stage}
 use Rattle.gh_phase.specs.Views.{run_phase}
 use Rattle.gh_poll.specs.declared.give.GiveStage.TheVariants.{GiveBuffer}
-use Rattle.gh_mutator.specs.declared.global.GlobalStage.TheVariants as global_stage
-use Rattle.gh_poll.specs.declared.leave.LeaveStage.TheVariants as leave_stage
 use Rattle.gh_poll.specs.declared.poll.PollStage.TheVariants.{FindRoom, Giving, Marking}
-use Rattle.gh_mutator.specs.declared.store.StoreStage.TheVariants as store_stage
-use Rattle.gh_mutator.specs.declared.task.Task.TheVariants as task
-use Rattle.gh_poll.specs.declared.wait.WaitStage.TheVariants as wait_stage
 use Rattle.gh_poll.specs.Give as give
-use Rattle.gh_mutator.specs.Listing.{asks, is_busy_at, takes}
-use Rattle.gh_mutator.specs.MarkVocabulary.{Cycle, IsParked, Shared, SoundPlace, effect, processor_kind, stage_of}
-use Rattle.gh_mutator_writes.specs.Vocabulary.{Party, Stage, Cell, Words, opening_processor, party_of, GiveStage, LeaveStage, PollStage, WaitStage, Assist, GlobalStage, NewStage, StoreStage, Place, Processor, Task, Wait}
+use Rattle.gh_mutator.specs.MarkVocabulary.{Cycle, IsParked, Shared, SoundPlace, stage_of}
+use Rattle.gh_mutator.specs.ProcessorPlaces.{party_of}
+use Rattle.gh_poll.specs.declared.give.GiveStage.{GiveStage}
 use Rattle.gh_mutator.specs.ProcessorMarks.{MarkFacts}
-use Rattle.gh_mutator.specs.Sweeping.{IsSweeping}
-use Rattle.gh_mutator.specs.Vocabulary.{Ask, Layout, Op, Polling, Shape}
 use Rattle.gh_mutator_writes.specs.Writing.{EndsStack, WritesOf}
 
 -- No buffer is held, also within the giving back.
@@ -40,21 +32,21 @@ PollsWithNone (FindRoom r) = ⊥
 PollsWithNone _ = Unit {0}
 
 abbrev pub LeavesWithNone : LeaveStage → Type 0
-LeavesWithNone (leave_stage.Giving g) = GivesNoBuffer g
+LeavesWithNone (LeaveStage.Giving g) = GivesNoBuffer g
 LeavesWithNone _ = Unit {0}
 
 -- no write of a pointer is begun
 abbrev pub StoresWithNone : StoreStage → Type 0
-StoresWithNone (store_stage.Writing w) = ⊥
+StoresWithNone (StoreStage.Writing w) = ⊥
 StoresWithNone _ = Unit {0}
 
 abbrev pub SetsWithNone : GlobalStage → Type 0
-SetsWithNone (global_stage.Writing w) = ⊥
+SetsWithNone (GlobalStage.Writing w) = ⊥
 SetsWithNone _ = Unit {0}
 
 module _ (p : Polling) where
   abbrev pub WaitsWithNone : WaitStage → Type 0
-  WaitsWithNone wait_stage.Polling = PollsWithNone p.stage
+  WaitsWithNone WaitStage.Polling = PollsWithNone p.stage
   WaitsWithNone _ = Unit {0}
 
   -- an object whose making has begun is not marked, and no assist runs
@@ -65,12 +57,12 @@ module _ (p : Polling) where
   MakesWithNone _ = Unit {0}
 
   abbrev pub RunsWithNone : Task → Type 0
-  RunsWithNone (task.Store x) = StoresWithNone x.stage
-  RunsWithNone (task.Global x) = SetsWithNone x.stage
-  RunsWithNone task.Poll = PollsWithNone p.stage
-  RunsWithNone (task.New x) = MakesWithNone x.stage
-  RunsWithNone (task.Gc g x) = WaitsWithNone x.stage
-  RunsWithNone (task.Leave x) = LeavesWithNone x.stage
+  RunsWithNone (Task.Store x) = StoresWithNone x.stage
+  RunsWithNone (Task.Global x) = SetsWithNone x.stage
+  RunsWithNone Task.Poll = PollsWithNone p.stage
+  RunsWithNone (Task.New x) = MakesWithNone x.stage
+  RunsWithNone (Task.Gc g x) = WaitsWithNone x.stage
+  RunsWithNone (Task.Leave x) = LeavesWithNone x.stage
   RunsWithNone _ = Unit {0}
 
 pub record HoldsNoBuffer (m : Processor) : Type 0 where
@@ -82,7 +74,7 @@ abbrev pub KnowsNoMarking : Party → Stage → Type 0
 KnowsNoMarking party (Resumes stops Acknowledge) = Unit {0}
 KnowsNoMarking party (Resumes stops LoadPhase) = Unit {0}
 KnowsNoMarking party Gone = Unit {0}
-KnowsNoMarking party _ = party.view.phase ≢ run.Mark
+KnowsNoMarking party _ = party.view.phase ≢ RunPhase.Mark
 
 pub record IsCalm (m : Processor) : Type 0 where
   pub holds : HoldsNoBuffer m
@@ -90,14 +82,14 @@ pub record IsCalm (m : Processor) : Type 0 where
 
 -- a load of the phase does not find that it is marking
 abbrev pub FindsNoMarking : Ask → (found : ℕ) → Type 0
-FindsNoMarking step found = step ≡ ask.Load cell.Phase → run_phase (phase_of found).phase ≢ Some run.Mark
+FindsNoMarking step found = step ≡ Ask.Load Cell.Phase → run_phase (phase_of found).phase ≢ Some RunPhase.Mark
 
 -- Mark bits, but those that a sweep clears, buffers and their entries it leaves, and of a stack it tells its end alone.
 abbrev pub IsWrittenCalmly : Layout → Processor → Cell → Type 0
-IsWrittenCalmly l m (cell.Mark i) = IsSweeping m
-IsWrittenCalmly l m (cell.Buffer i) = ⊥
-IsWrittenCalmly l m (cell.Entry i j) = ⊥
-IsWrittenCalmly l m (cell.Scanned g) = EndsStack l m g
+IsWrittenCalmly l m (Cell.Mark i) = IsSweeping m
+IsWrittenCalmly l m (Cell.Buffer i) = ⊥
+IsWrittenCalmly l m (Cell.Entry i j) = ⊥
+IsWrittenCalmly l m (Cell.Scanned g) = EndsStack l m g
 IsWrittenCalmly l m _ = Unit {0}
 
 pub record CalmProcessorsMarkNothing : Type 0 where

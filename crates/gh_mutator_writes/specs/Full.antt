@@ -1,33 +1,25 @@
 -- What a `new` leaves that is answered `full`.
 use Rattle.std.specs.Prelude.{◌≡◌, ℕ, suc, ◌<◌, ◌≤◌, Bool, true, false, Some, None}
-use Rattle.gh_base.specs.declared.cell.Ask.{Ask}
-use Rattle.gh_base.specs.declared.cell.Ask.TheVariants as ask
-use Rattle.gh_base.specs.declared.cell.Cell.TheVariants as cell
+use Rattle.gh_mutator_writes.specs.Vocabulary.{Ask, at_poll, begins, cached_at, Cell, gives, Layout, listing, Mutating, NewStage, stacks_with, Task, Wait, wanted_of}
 use Rattle.gh_base.specs.declared.operation.Op.TheVariants.{New}
 use Rattle.gh_base.specs.declared.value.Answer.TheVariants.{Full}
 use Rattle.gh_base.specs.declared.value.Value.TheVariants.{Nil}
 use Rattle.gh_base.specs.Routines.{told}
-use Rattle.gh_mutator.specs.declared.task.Task.TheVariants as task
 use Rattle.gh_mutator.specs.Faults.{rested}
-use Rattle.gh_poll.specs.Local.{cached_at, stacks_with}
-use Rattle.gh_mutator.specs.Mutating.{asks, begins, gives, listing, Mutating}
-use Rattle.gh_mutator.specs.New.{wanted_of}
-use Rattle.gh_mutator.specs.Processor.{at_poll}
-use Rattle.gh_mutator_writes.specs.Vocabulary.{NewStage, Task, Wait}
-use Rattle.gh_base.specs.declared.layout.Layout.{Layout}
+use Rattle.gh_mutator.specs.Mutating.{asks}
 
 -- a load, a step on the heap's lock, a store to a page word, which says who has a span cached, or a step of a sweep: it swaps a head, cuts alloc bits, clears marks, and adds what it counted
 abbrev pub is_looking : Ask → Bool
-is_looking (ask.Load cell) = true
-is_looking (ask.Store cell.Lock value) = true
-is_looking (ask.Store (cell.Page page) value) = true
-is_looking (ask.Swap cell.Lock old new) = true
-is_looking (ask.Swap (cell.Page page) old new) = true
-is_looking (ask.And (cell.Alloc i) bits) = true
-is_looking (ask.Store (cell.Mark i) value) = true
-is_looking (ask.Add cell.Tally more) = true
-is_looking (ask.Add cell.Live more) = true
-is_looking (ask.Add cell.Heap more) = true
+is_looking (Ask.Load cell) = true
+is_looking (Ask.Store Cell.Lock value) = true
+is_looking (Ask.Store (Cell.Page page) value) = true
+is_looking (Ask.Swap Cell.Lock old new) = true
+is_looking (Ask.Swap (Cell.Page page) old new) = true
+is_looking (Ask.And (Cell.Alloc i) bits) = true
+is_looking (Ask.Store (Cell.Mark i) value) = true
+is_looking (Ask.Add Cell.Tally more) = true
+is_looking (Ask.Add Cell.Live more) = true
+is_looking (Ask.Add Cell.Heap more) = true
 is_looking _ = false
 
 -- a new object waits for a cycle
@@ -36,7 +28,7 @@ waits_at (Wait x) = true
 waits_at _ = false
 
 abbrev pub new_is_waiting : Task → Bool
-new_is_waiting (task.New x) = waits_at x.stage
+new_is_waiting (Task.New x) = waits_at x.stage
 new_is_waiting _ = false
 
 module _ (l : Layout) (m : Mutating) (g d t : ℕ) (found : ℕ → ℕ) where
@@ -48,7 +40,7 @@ module _ (l : Layout) (m : Mutating) (g d t : ℕ) (found : ℕ → ℕ) where
   pub record HasWaited (n : ℕ) : Type 0 where
     pub at_step : ℕ
     pub before : at_step < n
-    pub loads : asks l (after at_step) ≡ ask.Load cell.Swept
+    pub loads : asks l (after at_step) ≡ Ask.Load Cell.Swept
     pub later : m.processor.poll.local.view.begun < found at_step
 
   -- it is answered `full` by its step number n, counted from 0

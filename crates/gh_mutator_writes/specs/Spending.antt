@@ -1,13 +1,7 @@
 -- A processor counts as spent what it takes out of the bank of credit.
 use Rattle.std.specs.Prelude.{◌≡◌, ℕ, ◌+◌, ◌^◌, ◌<◌, false, true, List}
+use Rattle.gh_mutator_writes.specs.Vocabulary.{asks, is_busy_at, IsAssisting, IsSound, Layout, marking_at, Op, opening_processor, Processor, processor_kind, Shape, takes}
 use Rattle.gh_credit.specs.Drawing.{drawn_by, LeavesOrDraws}
-use Rattle.gh_mutator.specs.Deeds.{processor_kind}
-use Rattle.gh_mutator.specs.Listing.{asks, is_busy_at, takes}
-use Rattle.gh_poll.specs.Local.{marking_at}
-use Rattle.gh_mutator.specs.Processor.{opening_processor}
-use Rattle.gh_mutator.specs.Vocabulary.{Layout, Op, Shape}
-use Rattle.gh_mutator_writes.specs.Vocabulary.{Processor}
-use Rattle.gh_mutator.specs.Running.{IsAssisting, IsSound}
 use Rattle.gh_mutator.specs.Spending.{spent_of}
 
 pub record ProcessorsSpend : Type 0 where

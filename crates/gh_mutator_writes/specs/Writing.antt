@@ -1,30 +1,22 @@
 -- Which words a processor writes, whatever it finds, and what it notes of the words of its stacks.
 use Rattle.std.specs.Prelude.{◌≡◌, ◌≢◌, ℕ, ◌*◌, ◌%◌, ◌<◌, ◌⊎◌, false, true, List, length, slice_index}
-use Rattle.gh_base.specs.declared.cell.Ask.TheVariants as ask
-use Rattle.gh_base.specs.declared.cell.Cell.TheVariants as cell
+use Rattle.gh_mutator_writes.specs.Vocabulary.{Ask, asks, Cell, effect, is_busy_at, IsAssisting, IsSearching, IsSound, IsSweeping, Layout, NewStage, Op, opening_processor, Place, Processor, processor_kind, Shape, takes, Task, Wait, WaitStage, Words}
 use Rattle.gh_base.specs.declared.pack.TheConstants.{END}
-use Rattle.gh_alloc.specs.declared.place.PlaceStage.TheVariants as making
+use Rattle.gh_alloc.specs.declared.place.PlaceStage.{PlaceStage}
 use Rattle.gh_phase.specs.declared.view.RunPhase.TheVariants.{Mark}
-use Rattle.gh_mutator.specs.declared.task.Task.TheVariants as task
-use Rattle.gh_poll.specs.declared.wait.WaitStage.TheVariants as wait_stage
-use Rattle.gh_mutator.specs.Listing.{asks, is_busy_at, takes}
-use Rattle.gh_mutator.specs.MarkVocabulary.{effect, processor_kind}
-use Rattle.gh_mutator_writes.specs.Vocabulary.{Cell, Words, opening_processor, NewStage, Place, Processor, Task, Wait}
 use Rattle.gh_mutator.specs.Asking.{Compares, CountsUpTo, SawReached, SeesReached}
-use Rattle.gh_mutator.specs.Running.{IsAssisting, IsSound}
-use Rattle.gh_mutator.specs.Sweeping.{IsSearching, IsSweeping}
-use Rattle.gh_mutator.specs.Vocabulary.{Ask, Layout, MOST_GOROUTINES, Op, Shape}
+use Rattle.gh_mutator.specs.Vocabulary.{MOST_GOROUTINES}
 
 -- The words that it writes of some rows.
 
 -- it begins to wait
 abbrev pub BeginsToWaitAt : NewStage → Type 0
-BeginsToWaitAt (Wait x) = x.stage ≡ wait_stage.Want
+BeginsToWaitAt (Wait x) = x.stage ≡ WaitStage.Want
 BeginsToWaitAt _ = ⊥
 
 abbrev pub BeginsToWait : Task → Type 0
-BeginsToWait (task.New x) = BeginsToWaitAt x.stage
-BeginsToWait (task.Gc g x) = x.stage ≡ wait_stage.Want
+BeginsToWait (Task.New x) = BeginsToWaitAt x.stage
+BeginsToWait (Task.Gc g x) = x.stage ≡ WaitStage.Want
 BeginsToWait _ = ⊥
 
 -- it asks for a cycle
@@ -33,17 +25,17 @@ IsWanting t = BeginsToWait t ⊎ SawReached t
 
 -- it has made an object, and adds the bytes of its slot
 abbrev pub CountsAt : Ask → NewStage → Type 0
-CountsAt step (Place p) = (p.stage ≡ making.Count) × (step ≡ ask.Add cell.Heap (8 * p.slot))
+CountsAt step (Place p) = (p.stage ≡ PlaceStage.Count) × (step ≡ Ask.Add Cell.Heap (8 * p.slot))
 CountsAt step _ = ⊥
 
 abbrev pub CountsObject : Ask → Task → Type 0
-CountsObject step (task.New x) = CountsAt step x.stage
+CountsObject step (Task.New x) = CountsAt step x.stage
 CountsObject step _ = ⊥
 
 -- the goroutine ends
 pub record EndsStack (l : Layout) (m : Processor) (g : ℕ) : Type 0 where
-  pub task_is : m.task ≡ task.End g
-  pub tells : asks l m ≡ ask.Store (cell.Scanned g) END
+  pub task_is : m.task ≡ Task.End g
+  pub tells : asks l m ≡ Ask.Store (Cell.Scanned g) END
 
 -- the stack of a goroutine of its own was scanned in the cycle that it knows, of which it has not noted that yet
 pub record TellsScan (l : Layout) (m : Processor) (g : ℕ) : Type 0 where
@@ -51,42 +43,42 @@ pub record TellsScan (l : Layout) (m : Processor) (g : ℕ) : Type 0 where
   pub own : g % l.procs ≡ m.poll.seat
   pub marking : m.poll.local.view.phase ≡ Mark
   pub unscanned : m.poll.local.view.begun ≢ END → slice_index m.poll.local.scanned g ≢ m.poll.local.view.begun
-  pub tells : asks l m ≡ ask.Store (cell.Scanned g) m.poll.local.view.begun
+  pub tells : asks l m ≡ Ask.Store (Cell.Scanned g) m.poll.local.view.begun
 
 -- it draws on the bank by this step
 abbrev pub IsSwap : Ask → Type 0
-IsSwap (ask.Swap c old new) = Unit {0}
+IsSwap (Ask.Swap c old new) = Unit {0}
 IsSwap _ = ⊥
 
 -- The words that it writes: no control word beside those of the lock, the bytes, the wanted cycle and the bank, and while it sweeps the counts of the sweep.
 abbrev pub IsWritten : Layout → Processor → Cell → Type 0
-IsWritten l m cell.Lock = Unit {0}
-IsWritten l m cell.Want = IsWanting m.task × (asks l m ≡ ask.Or cell.Want 1)
-IsWritten l m cell.Bank = IsAssisting m.task × IsSwap (asks l m)
-IsWritten l m cell.Heap = CountsObject (asks l m) m.task ⊎ IsSweeping m
-IsWritten l m cell.Tally = IsSweeping m
-IsWritten l m cell.Live = IsSweeping m
-IsWritten l m (cell.Page i) = Unit {0}
-IsWritten l m (cell.Alloc i) = Unit {0}
-IsWritten l m (cell.Mark i) = Unit {0}
-IsWritten l m (cell.Bitmap i) = Unit {0}
-IsWritten l m (cell.Birth i) = Unit {0}
-IsWritten l m (cell.Field i) = Unit {0}
-IsWritten l m (cell.Global i) = Unit {0}
-IsWritten l m (cell.Buffer i) = Unit {0}
-IsWritten l m (cell.Entry i j) = Unit {0}
-IsWritten l m (cell.Ack i) = i ≡ m.poll.seat
-IsWritten l m (cell.Scanned g) = EndsStack l m g ⊎ TellsScan l m g
+IsWritten l m Cell.Lock = Unit {0}
+IsWritten l m Cell.Want = IsWanting m.task × (asks l m ≡ Ask.Or Cell.Want 1)
+IsWritten l m Cell.Bank = IsAssisting m.task × IsSwap (asks l m)
+IsWritten l m Cell.Heap = CountsObject (asks l m) m.task ⊎ IsSweeping m
+IsWritten l m Cell.Tally = IsSweeping m
+IsWritten l m Cell.Live = IsSweeping m
+IsWritten l m (Cell.Page i) = Unit {0}
+IsWritten l m (Cell.Alloc i) = Unit {0}
+IsWritten l m (Cell.Mark i) = Unit {0}
+IsWritten l m (Cell.Bitmap i) = Unit {0}
+IsWritten l m (Cell.Birth i) = Unit {0}
+IsWritten l m (Cell.Field i) = Unit {0}
+IsWritten l m (Cell.Global i) = Unit {0}
+IsWritten l m (Cell.Buffer i) = Unit {0}
+IsWritten l m (Cell.Entry i j) = Unit {0}
+IsWritten l m (Cell.Ack i) = i ≡ m.poll.seat
+IsWritten l m (Cell.Scanned g) = EndsStack l m g ⊎ TellsScan l m g
 IsWritten l m _ = ⊥
 
 -- the step loads, or is on one of these words
 abbrev pub WritesOf : (Cell → Type 0) → Ask → Type 0
-WritesOf written (ask.Load c) = Unit {0}
-WritesOf written (ask.Store c value) = written c
-WritesOf written (ask.Or c bits) = written c
-WritesOf written (ask.And c bits) = written c
-WritesOf written (ask.Add c more) = written c
-WritesOf written (ask.Swap c old new) = written c
+WritesOf written (Ask.Load c) = Unit {0}
+WritesOf written (Ask.Store c value) = written c
+WritesOf written (Ask.Or c bits) = written c
+WritesOf written (Ask.And c bits) = written c
+WritesOf written (Ask.Add c more) = written c
+WritesOf written (Ask.Swap c old new) = written c
 
 -- its seat is the same
 abbrev pub StaysThere : (m to : Processor) → Type 0
@@ -116,7 +108,7 @@ pub record StacksAreNoted : Type 0 where
   pub begins : (shapes : List Shape) (l : Layout) (m : Processor) (o : Op) → IsSound l m → ((processor_kind shapes l).begins m o).poll.local.scanned ≡ m.poll.local.scanned
   pub as_many : (l : Layout) (shapes : List Shape) (m : Processor) (found : ℕ) → IsSound l m → length (takes l shapes m found).poll.local.scanned ≡ length m.poll.local.scanned
   -- the number that it writes is noted, and no other note changes
-  pub notes : (l : Layout) (shapes : List Shape) (m : Processor) (found g number : ℕ) → IsSound l m → asks l m ≡ ask.Store (cell.Scanned g) number → g < length m.poll.local.scanned → slice_index (takes l shapes m found).poll.local.scanned g ≡ number
-  pub keeps : (l : Layout) (shapes : List Shape) (m : Processor) (found g : ℕ) → IsSound l m → ((number : ℕ) → asks l m ≢ ask.Store (cell.Scanned g) number) → slice_index (takes l shapes m found).poll.local.scanned g ≡ slice_index m.poll.local.scanned g
+  pub notes : (l : Layout) (shapes : List Shape) (m : Processor) (found g number : ℕ) → IsSound l m → asks l m ≡ Ask.Store (Cell.Scanned g) number → g < length m.poll.local.scanned → slice_index (takes l shapes m found).poll.local.scanned g ≡ number
+  pub keeps : (l : Layout) (shapes : List Shape) (m : Processor) (found g : ℕ) → IsSound l m → ((number : ℕ) → asks l m ≢ Ask.Store (Cell.Scanned g) number) → slice_index (takes l shapes m found).poll.local.scanned g ≡ slice_index m.poll.local.scanned g
   -- the end of a goroutine writes the number of an end
-  pub ends : (l : Layout) (m : Processor) (g : ℕ) → m.task ≡ task.End g → asks l m ≡ ask.Store (cell.Scanned g) END
+  pub ends : (l : Layout) (m : Processor) (g : ℕ) → m.task ≡ Task.End g → asks l m ≡ Ask.Store (Cell.Scanned g) END

@@ -1,2 +1,3 @@
 pub mod Carving
 mod Owning
+pub mod Vocabulary

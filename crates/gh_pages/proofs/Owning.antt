@@ -1,21 +1,16 @@
 -- Its own steps are moves that its rights allow, and what it knows lasts. Of the heap it is known what the laws of gh_heap say.
 use Rattle.std.proofs.Common.{◌≡◌, ◌≢◌, ℕ, ◌+◌, ◌-◌, ◌<◌, ◌≤◌, Bool, true, false, not, cond, eqb, ltb, inl, inr, Option, Some, None, refl, sym, ap, subst, ◌∙◌, arith}
 use Rattle.std.proofs.lemmas.Bool.{eqb-true, eqb-false, eq-eqb, ltb-true, ltb-false}
-use Rattle.std.proofs.lemmas.Bool.Decides.{nat_tests, eqb_tells}
+use Rattle.gh_pages.proofs.Vocabulary.{after_look, asks, asks_at, at_stage, Body, CarveStage, Carving, Ended, eqb_tells, first_store, fresh_body, fresh_head, given, given_at, goes, goes_at, Head, head_word, is_free, is_last_page, Look, nat_tests, next_store, PackedWordsAreReadBack, page_of}
 use Rattle.gh_base.specs.declared.pack.PageWord.{PageWord}
-use Rattle.gh_base.specs.declared.pack.PageWord.TheVariants as page
 use Rattle.gh_base.specs.Cells.{InRange}
-use Rattle.gh_base.specs.Packing.{PackedWordsAreReadBack, head_word, page_of}
 use Rattle.gh_base.specs.Rows.{Row}
 use Rattle.gh_base.specs.Steps.{cell_of}
 use Rattle.gh_heap.specs.Laws.{EachFactLasts, EachMoveKeeps, EachOwnMoveLeaves, EachRightFollows, TheHeapIsApart}
 use Rattle.gh_heap.specs.Moves.{KeepsObjects, LayBody, LayHead, Leaves, MayLay, Others, Quiet, Steps, laid_so_far, moved, update}
 use Rattle.gh_heap.specs.Rights.{Arena, Good, Right, Shared, View, view}
 use Rattle.gh_heap.specs.Spans.{IsSpan, LaidOut, Laying, owner_at, owner_in}
-use Rattle.gh_pages.specs.declared.carve.CarveStage.{CarveStage}
-use Rattle.gh_pages.specs.declared.carve.CarveStage.TheVariants.{Look, Body, Head, Ended}
 use Rattle.gh_pages.specs.Facts.{Carves, CarvesByItsRights, Comes, Facts, FactsAt, FreeBefore, IsPageOf, Lasts, LaysPage, Looks, NoRun, NoRunBefore, Opens, OwnStep, Within, fresh_from, laying_at}
-use Rattle.gh_pages.specs.Listing.{Carving, after_look, asks, asks_at, at_stage, first_store, fresh_body, fresh_head, given, given_at, goes, goes_at, is_free, is_last_page, next_store}
 
 pub record Known : Type 0 where
   pub packed : PackedWordsAreReadBack
@@ -54,7 +49,7 @@ opens z a v c whose stage = record {
     no_run = record { none = λ first le. none first le whose.class.some; ends = λ lt. absurd (omega arith) };
   });
 } where
-  none : (first : ℕ) → first + c.span.pages ≤ 0 → 1 ≤ c.span.pages → (d : ℕ) × (d < c.span.pages) × (page_of (v.page (first + d)) ≢ page.Free)
+  none : (first : ℕ) → first + c.span.pages ≤ 0 → 1 ≤ c.span.pages → (d : ℕ) × (d < c.span.pages) × (page_of (v.page (first + d)) ≢ PageWord.Free)
   none first le some = absurd (omega arith)
 
 -- What is known lasts.
@@ -84,41 +79,41 @@ lasts k z a v w c o l h = record { whose = whose-last z a v w c o h.whose; stage
 
 -- The walk.
 
-free-is : (w : PageWord) → is_free w ≡ true → w ≡ page.Free
+free-is : (w : PageWord) → is_free w ≡ true → w ≡ PageWord.Free
 free-is w e = grind arith
 
-taken-is : (w : PageWord) → is_free w ≡ false → w ≢ page.Free
-taken-is page.Free e f = cc
-taken-is (page.Head h) e f = cc
-taken-is (page.Body b) e f = cc
+taken-is : (w : PageWord) → is_free w ≡ false → w ≢ PageWord.Free
+taken-is PageWord.Free e f = cc
+taken-is (PageWord.Head h) e f = cc
+taken-is (PageWord.Body b) e f = cc
 
 -- the page at p is free
-free-more : (row : Row) (p run : ℕ) → FreeBefore row p run → page_of (row p) ≡ page.Free → FreeBefore row (p + 1) (run + 1)
+free-more : (row : Row) (p run : ℕ) → FreeBefore row p run → page_of (row p) ≡ PageWord.Free → FreeBefore row (p + 1) (run + 1)
 free-more row p run h e = record {
   fits = omega (arith, h.fits);
-  free = λ q high low. elim (eqb_tells q p) [ inl y ↦ subst (λ (x : ℕ). page_of (row x) ≡ page.Free) (sym y.1) e | inr n ↦ h.free q (omega arith) (omega (arith, n.1)) ];
+  free = λ q high low. elim (eqb_tells q p) [ inl y ↦ subst (λ (x : ℕ). page_of (row x) ≡ PageWord.Free) (sym y.1) e | inr n ↦ h.free q (omega arith) (omega (arith, n.1)) ];
 }
 
 none-more : (row : Row) (need p run : ℕ) → run + 1 < need → NoRunBefore row need p run → NoRunBefore row need (p + 1) (run + 1)
 none-more row need p run few h = record {
   none = λ first le. none first le;
-  ends = λ lt. subst (λ (x : ℕ). page_of (row x) ≢ page.Free) (omega arith) (h.ends (omega arith));
+  ends = λ lt. subst (λ (x : ℕ). page_of (row x) ≢ PageWord.Free) (omega arith) (h.ends (omega arith));
 } where
-  none : (first : ℕ) → first + need ≤ p + 1 → (d : ℕ) × (d < need) × (page_of (row (first + d)) ≢ page.Free)
+  none : (first : ℕ) → first + need ≤ p + 1 → (d : ℕ) × (d < need) × (page_of (row (first + d)) ≢ PageWord.Free)
   none first le = elim (eqb_tells (first + need) (p + 1)) [
-    | inl y ↦ (p - run - 1 - first, omega arith, subst (λ (x : ℕ). page_of (row x) ≢ page.Free) (omega arith) (h.ends (omega (arith, y.1))))
+    | inl y ↦ (p - run - 1 - first, omega arith, subst (λ (x : ℕ). page_of (row x) ≢ PageWord.Free) (omega arith) (h.ends (omega (arith, y.1))))
     | inr n ↦ h.none first (omega (arith, n.1))
   ]
 
 -- it is not
-none-past : (row : Row) (need p : ℕ) → 1 ≤ need → NoRun row need p → page_of (row p) ≢ page.Free → NoRunBefore row need (p + 1) 0
+none-past : (row : Row) (need p : ℕ) → 1 ≤ need → NoRun row need p → page_of (row p) ≢ PageWord.Free → NoRunBefore row need (p + 1) 0
 none-past row need p some h e = record {
   none = λ first le. none first le;
-  ends = λ lt. subst (λ (x : ℕ). page_of (row x) ≢ page.Free) (omega arith) e;
+  ends = λ lt. subst (λ (x : ℕ). page_of (row x) ≢ PageWord.Free) (omega arith) e;
 } where
-  none : (first : ℕ) → first + need ≤ p + 1 → (d : ℕ) × (d < need) × (page_of (row (first + d)) ≢ page.Free)
+  none : (first : ℕ) → first + need ≤ p + 1 → (d : ℕ) × (d < need) × (page_of (row (first + d)) ≢ PageWord.Free)
   none first le = elim (eqb_tells (first + need) (p + 1)) [
-    | inl y ↦ (need - 1, omega arith, subst (λ (x : ℕ). page_of (row x) ≢ page.Free) (omega (arith, y.1)) e)
+    | inl y ↦ (need - 1, omega arith, subst (λ (x : ℕ). page_of (row x) ≢ PageWord.Free) (omega (arith, y.1)) e)
     | inr n ↦ h first (omega (arith, n.1))
   ]
 
@@ -136,12 +131,12 @@ module _ (k : Known) (z : Arena) (a : ℕ) (s : Shared) (held : ℕ → Bool) (c
   stays g = (k.leave z a s g).stays
 
   -- nothing is laid out before the first page is written
-  first-laid : (first : ℕ) → first + c.span.pages ≤ z.layout.pages → 1 ≤ c.span.pages → ((d : ℕ) → d < c.span.pages → page_of (now.page (first + d)) ≡ page.Free) → LaidOut z.layout.pages now.page (fresh_from c first 1)
+  first-laid : (first : ℕ) → first + c.span.pages ≤ z.layout.pages → 1 ≤ c.span.pages → ((d : ℕ) → d < c.span.pages → page_of (now.page (first + d)) ≡ PageWord.Free) → LaidOut z.layout.pages now.page (fresh_from c first 1)
   first-laid first fits some free = record {
     within = fits;
     some = omega arith;
     few = some;
-    head = subst (λ (x : ℕ). page_of (now.page x) ≡ page.Free) (omega arith) (free 0 (omega arith));
+    head = subst (λ (x : ℕ). page_of (now.page x) ≡ PageWord.Free) (omega arith) (free 0 (omega arith));
     written = λ d low high. absurd (omega arith);
     free = λ d low high. free d high;
   }
@@ -239,7 +234,7 @@ module _ (k : Known) (z : Arena) (a : ℕ) (s : Shared) (held : ℕ → Bool) (c
     written = put-here first (head_word (fresh_head c)) (now.page first)
 
     span : IsSpan z.layout.pages (view t).page first (fresh_head c)
-    span = (k.apart z (view t) (k.keep z a s (LayHead y) g may)).held a first (fresh_head c) (right-then.holds first ∙ ap (λ (b : Bool). cond b true (held first)) (eq-eqb first first refl)) (ap page_of written ∙ k.packed.page (page.Head (fresh_head c)) whose.word)
+    span = (k.apart z (view t) (k.keep z a s (LayHead y) g may)).held a first (fresh_head c) (right-then.holds first ∙ ap (λ (b : Bool). cond b true (held first)) (eq-eqb first first refl)) (ap page_of written ∙ k.packed.page (PageWord.Head (fresh_head c)) whose.word)
 
   own-at : (q : CarveStage) → Good z now → Right a now true held (laying_at c q) → Facts z a now (at_stage c q) →
       Steps z a s (asks (at_stage c q)) (λ t. KeepsObjects now (view t) × Comes z a now (view t) held (given (goes z.layout (at_stage c q) (s.words (cell_of (asks (at_stage c q)))))) (goes z.layout (at_stage c q) (s.words (cell_of (asks (at_stage c q))))))
@@ -264,8 +259,8 @@ lays-at k z a v c (Look p run) whose x = tt
 lays-at k z a v c (Body first d) whose x =
     let some = x.0.some in
     let few = whose.word.pages in
-    subst (IsPageOf c.span) (sym (k.packed.page (page.Body (fresh_body c d)) (record { class = whose.word.class; some = omega (arith, some); distance = omega (arith, x.1, few) }))) (refl, refl, omega (arith, some), x.1)
-lays-at k z a v c (Head first) whose x = subst (IsPageOf c.span) (sym (k.packed.page (page.Head (fresh_head c)) whose.word)) (refl, refl, refl)
+    subst (IsPageOf c.span) (sym (k.packed.page (PageWord.Body (fresh_body c d)) (record { class = whose.word.class; some = omega (arith, some); distance = omega (arith, x.1, few) }))) (refl, refl, omega (arith, some), x.1)
+lays-at k z a v c (Head first) whose x = subst (IsPageOf c.span) (sym (k.packed.page (PageWord.Head (fresh_head c)) whose.word)) (refl, refl, refl)
 lays-at k z a v c (Ended taken) whose x = absurd x
 
 pub carves_by_its_rights : Known → CarvesByItsRights

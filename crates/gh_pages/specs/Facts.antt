@@ -1,20 +1,11 @@
 -- What is known at each stage of the search for fresh pages while any number of processors change the heap, under which rights, and the laws: what each step of its own is, that it is on a word that there is, and that what is known lasts whatever others do.
 use Rattle.std.specs.Prelude.{◌≡◌, ◌≢◌, ℕ, ◌+◌, ◌-◌, ◌<◌, ◌≤◌, Bool, true, false, Option, Some, None}
-use Rattle.gh_base.specs.declared.cell.Ask.{Ask}
-use Rattle.gh_base.specs.declared.cell.Ask.TheVariants.{Load, Store}
-use Rattle.gh_base.specs.declared.cell.Cell.TheVariants.{Page}
-use Rattle.gh_base.specs.declared.pack.PageWord.{PageWord}
-use Rattle.gh_base.specs.declared.pack.PageWord.TheVariants as page
-use Rattle.gh_base.specs.Cells.{InRange}
-use Rattle.gh_base.specs.Packing.{FitsHead, page_of}
+use Rattle.gh_pages.specs.Vocabulary.{Ask, Body, CarveStage, Ended, FitsHead, Head, InRange, Load, Look, Page, page_of, PageWord, Span, Store}
 use Rattle.gh_base.specs.Rows.{Row}
 use Rattle.gh_base.specs.Steps.{cell_of}
 use Rattle.gh_heap.specs.Moves.{KeepsObjects, Leaves, Others, Steps, laid_so_far, update}
 use Rattle.gh_heap.specs.Rights.{Arena, Good, Right, Shared, View, view}
 use Rattle.gh_heap.specs.Spans.{FitsClass, IsEmpty, IsSpan, LaidOut, Laying}
-use Rattle.gh_pages.specs.declared.carve.CarveStage.{CarveStage}
-use Rattle.gh_pages.specs.declared.carve.CarveStage.TheVariants.{Look, Body, Head, Ended}
-use Rattle.gh_pages.specs.declared.carve.Span.{Span}
 use Rattle.gh_pages.specs.Listing.{Carving, asks, fresh_head, given, goes}
 
 -- the span from page `first` on, of whose further pages those below this distance are written
@@ -40,16 +31,16 @@ pub record Carves (z : Arena) (a : ℕ) (v : View) (c : Carving) : Type 0 where
 -- so many free pages stand right before page p
 pub record FreeBefore (page_words : Row) (p run : ℕ) : Type 0 where
   pub fits : run ≤ p
-  pub free : (q : ℕ) → p < q + run + 1 → q < p → page_of (page_words q) ≡ page.Free
+  pub free : (q : ℕ) → p < q + run + 1 → q < p → page_of (page_words q) ≡ PageWord.Free
 
 -- no run of so many free pages lies before page p
 abbrev pub NoRun : (page_words : Row) → (need p : ℕ) → Type 0
-NoRun page_words need p = (first : ℕ) → first + need ≤ p → (d : ℕ) × (d < need) × (page_of (page_words (first + d)) ≢ page.Free)
+NoRun page_words need p = (first : ℕ) → first + need ≤ p → (d : ℕ) × (d < need) × (page_of (page_words (first + d)) ≢ PageWord.Free)
 
 -- and the run right before it is no longer than this
 pub record NoRunBefore (page_words : Row) (need p run : ℕ) : Type 0 where
   pub none : NoRun page_words need p
-  pub ends : run < p → page_of (page_words (p - run - 1)) ≢ page.Free
+  pub ends : run < p → page_of (page_words (p - run - 1)) ≢ PageWord.Free
 
 -- a look at page p
 pub record Looks (z : Arena) (page_words : Row) (need p run : ℕ) : Type 0 where
@@ -93,9 +84,9 @@ Within = (z : Arena) (a : ℕ) (v : View) (c : Carving) → Facts z a v c → In
 
 -- what it writes is a page word of the span: of its first page, or of one further on
 abbrev pub IsPageOf : Span → PageWord → Type 0
-IsPageOf span page.Free = ⊥
-IsPageOf span (page.Head h) = (h.class ≡ span.class) × (h.noscan ≡ span.noscan) × (h.pages ≡ span.pages)
-IsPageOf span (page.Body b) = (b.class ≡ span.class) × (b.noscan ≡ span.noscan) × (0 < b.distance) × (b.distance < span.pages)
+IsPageOf span PageWord.Free = ⊥
+IsPageOf span (PageWord.Head h) = (h.class ≡ span.class) × (h.noscan ≡ span.noscan) × (h.pages ≡ span.pages)
+IsPageOf span (PageWord.Body b) = (b.class ≡ span.class) × (b.noscan ≡ span.noscan) × (0 < b.distance) × (b.distance < span.pages)
 
 abbrev pub LaysPage : Span → Ask → Type 0
 LaysPage span (Load c) = Unit {0}

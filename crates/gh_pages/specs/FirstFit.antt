@@ -1,12 +1,7 @@
 -- First fit: which pages the routine takes, by what it finds of each page.
 use Rattle.std.specs.Prelude.{◌≡◌, ℕ, suc, ◌+◌, ◌<◌, ◌≤◌, ◌↔◌, IsTrue, None}
-use Rattle.gh_base.specs.declared.cell.Cell.TheVariants.{Page}
-use Rattle.gh_base.specs.declared.cell.Ask.TheVariants.{Load}
-use Rattle.gh_base.specs.declared.layout.Layout.{Layout}
-use Rattle.gh_base.specs.Packing.{page_of}
-use Rattle.gh_base.specs.Machines.{steps_of}
+use Rattle.gh_pages.specs.Vocabulary.{Layout, Load, Page, page_of, Span, steps_of}
 use Rattle.gh_base.specs.Routines as routine
-use Rattle.gh_pages.specs.declared.carve.Span.{Span}
 use Rattle.gh_pages.specs.Listing.{Carving, asks, at_stage, first_store, is_free, listing, opening}
 
 -- so many free pages stand from this one on, in an arena of so many pages where page p was found to be `found p`

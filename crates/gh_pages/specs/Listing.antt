@@ -1,21 +1,11 @@
 -- Fresh pages for a span: what is asked for at each stage, where that leads, what it has given, and that it writes page words.
 use Rattle.std.specs.Prelude.{ℕ, ◌+◌, ◌-◌, Bool, true, false, not, nat_lt, ◌==◌, ◌&&◌, if◌then◌else◌, Option, Some, None}
-use Rattle.gh_base.specs.declared.cell.Cell.TheVariants.{Touch, Page}
-use Rattle.gh_base.specs.declared.cell.Ask.{Ask}
-use Rattle.gh_base.specs.declared.cell.Ask.TheVariants.{Load, Store}
-use Rattle.gh_base.specs.declared.layout.Layout.{Layout}
-use Rattle.gh_base.specs.declared.pack.PageWord.{PageWord}
+use Rattle.gh_pages.specs.Vocabulary.{Ask, Body, body_word, Carve, CarveStage, Ended, Head, head_word, Layout, Listing, Load, Look, Page, page_of, PageWord, Span, Store, Touch}
 use Rattle.gh_base.specs.declared.pack.PageWord.TheVariants.{Free}
 use Rattle.gh_base.specs.declared.pack.SpanHead.{SpanHead}
 use Rattle.gh_base.specs.declared.pack.SpanBody.{SpanBody}
 use Rattle.gh_base.specs.Footprints.{Footprint}
 use Rattle.gh_base.specs.Footprints as row
-use Rattle.gh_base.specs.Machines.{Listing}
-use Rattle.gh_base.specs.Packing.{page_of, head_word, body_word}
-use Rattle.gh_pages.specs.declared.carve.Carve.{Carve}
-use Rattle.gh_pages.specs.declared.carve.Span.{Span}
-use Rattle.gh_pages.specs.declared.carve.CarveStage.{CarveStage}
-use Rattle.gh_pages.specs.declared.carve.CarveStage.TheVariants.{Look, Body, Head, Ended}
 use Rattle.gh_pages.specs.Sound.{Sound}
 
 -- a routine that looks for pages for a span: whose it is, the sweep generation, the span, and its stage

@@ -1,13 +1,8 @@
 -- What the routine knows of its own numbers, whatever it is told.
 use Rattle.std.specs.Prelude.{◌+◌, ◌^◌, ◌<◌, ◌≤◌, Some, None}
-use Rattle.gh_base.specs.declared.layout.Layout.{Layout}
-use Rattle.gh_base.specs.Cells.{seats_of}
+use Rattle.gh_pages.specs.Vocabulary.{Body, Carve, CarveStage, Ended, Head, Layout, Look, seats_of, Span}
 use Rattle.gh_class.specs.Classes.{IsSizeClass}
 use Rattle.gh_class.specs.declared.class.TheConstants.{MOST_SPAN_PAGES}
-use Rattle.gh_pages.specs.declared.carve.Carve.{Carve}
-use Rattle.gh_pages.specs.declared.carve.Span.{Span}
-use Rattle.gh_pages.specs.declared.carve.CarveStage.{CarveStage}
-use Rattle.gh_pages.specs.declared.carve.CarveStage.TheVariants.{Look, Body, Head, Ended}
 
 -- a span of a class there is, of 1 to MOST_SPAN_PAGES pages
 pub record FitsSpan (span : Span) : Type 0 where

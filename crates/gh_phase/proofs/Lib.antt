@@ -1,1 +1,2 @@
 pub mod Shaking
+pub mod Vocabulary

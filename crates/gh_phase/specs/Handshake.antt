@@ -1,20 +1,9 @@
 -- The places of actors in the handshake of a stop, and the steps between them. An actor is in the handshake where each of its steps is one of these.
 use Rattle.std.specs.Prelude.{◌≡◌, ◌≢◌, ℕ, ◌+◌, ◌-◌, ◌^◌, ◌%◌, ◌<◌, ◌⊎◌, Bool, true, false, nat_lt, ◌==◌, if◌then◌else◌, Option, Some, None}
+use Rattle.gh_phase.specs.Vocabulary.{Ack, Acknowledge, Add, And, Ask, Begun, Ended, Finished, Gen, GONE, Load, LoadBegun, LoadGeneration, LoadPhase, Mark, Off, Or, Phase, phase_of, phase_word, PhaseKind, ResumeStage, RunPhase, Setting, Store, Swap, Touch, View}
 use Rattle.gh_base.specs.declared.cell.Cell.{Cell}
-use Rattle.gh_base.specs.declared.cell.Cell.TheVariants.{Touch, Phase, Gen, Begun, Ack}
-use Rattle.gh_base.specs.declared.cell.Ask.{Ask}
-use Rattle.gh_base.specs.declared.cell.Ask.TheVariants.{Load, Store, Or, And, Add, Swap}
-use Rattle.gh_base.specs.declared.pack.Phase.{Phase as PhaseKind}
 use Rattle.gh_base.specs.declared.pack.Phase.TheVariants as kind
-use Rattle.gh_base.specs.declared.pack.TheConstants.{GONE}
-use Rattle.gh_base.specs.Lists.{Setting}
-use Rattle.gh_base.specs.Packing.{phase_of, phase_word}
 use Rattle.gh_base.specs.Routines.{Listing}
-use Rattle.gh_phase.specs.declared.resume.ResumeStage.{ResumeStage}
-use Rattle.gh_phase.specs.declared.resume.ResumeStage.TheVariants.{Acknowledge, LoadPhase, LoadGeneration, LoadBegun, Ended}
-use Rattle.gh_phase.specs.declared.view.RunPhase.{RunPhase}
-use Rattle.gh_phase.specs.declared.view.RunPhase.TheVariants.{Off, Mark, Finished}
-use Rattle.gh_phase.specs.declared.view.View.{View}
 use Rattle.gh_phase.specs.Resumes.{IsStop}
 use Rattle.gh_phase.specs.Views.{first_view, generation_found, run_phase}
 

@@ -6,3 +6,4 @@ pub mod Shakes
 pub mod Sound
 pub mod Views
 pub mod Waiting
+pub mod Vocabulary

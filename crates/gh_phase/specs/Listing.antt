@@ -1,21 +1,11 @@
 -- Going on after a stop: what is asked for at each stage, where that leads, and what it gives.
 use Rattle.std.specs.Prelude.{ℕ, Bool, true, false, not, ◌==◌, if◌then◌else◌, Option, Some, None, is_none}
-use Rattle.gh_base.specs.declared.cell.Cell.TheVariants.{Touch, Phase, Gen, Begun, Ack}
-use Rattle.gh_base.specs.declared.cell.Ask.{Ask}
-use Rattle.gh_base.specs.declared.cell.Ask.TheVariants.{Load, Store}
-use Rattle.gh_base.specs.declared.layout.Layout.{Layout}
+use Rattle.gh_phase.specs.Vocabulary.{Ack, Acknowledge, Ask, Begun, Ended, Gen, Layout, Load, LoadBegun, LoadGeneration, LoadPhase, Phase, phase_of, Resume, Resumed, ResumeStage, RunPhase, Store, Touch, View}
 use Rattle.gh_base.specs.Footprints.{Footprint}
 use Rattle.gh_base.specs.Footprints as row
 use Rattle.gh_base.specs.Machines.{Listing, steps_of}
-use Rattle.gh_base.specs.Packing.{phase_of}
 use Rattle.gh_base.specs.Routines as routine
 use Rattle.gh_phase.specs.Sound.{SoundResuming}
-use Rattle.gh_phase.specs.declared.resume.Resume.{Resume}
-use Rattle.gh_phase.specs.declared.resume.Resumed.{Resumed}
-use Rattle.gh_phase.specs.declared.resume.ResumeStage.{ResumeStage}
-use Rattle.gh_phase.specs.declared.resume.ResumeStage.TheVariants.{Acknowledge, LoadPhase, LoadGeneration, LoadBegun, Ended}
-use Rattle.gh_phase.specs.declared.view.RunPhase.{RunPhase}
-use Rattle.gh_phase.specs.declared.view.View.{View}
 use Rattle.gh_phase.specs.Views.{generation_found, run_phase}
 
 -- an actor that goes on after a stop: the number of the stop, what it knows so far, and its stage

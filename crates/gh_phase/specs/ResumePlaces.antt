@@ -1,10 +1,6 @@
 -- Where going on after a stop stands in the handshake.
 use Rattle.std.specs.Prelude.{◌≡◌, ℕ, Some}
-use Rattle.gh_base.specs.declared.layout.Layout.{Layout}
-use Rattle.gh_phase.specs.declared.resume.Resumed.{Resumed}
-use Rattle.gh_phase.specs.declared.resume.ResumeStage.{ResumeStage}
-use Rattle.gh_phase.specs.declared.resume.ResumeStage.TheVariants.{Acknowledge, LoadPhase, LoadGeneration, LoadBegun, Ended}
-use Rattle.gh_phase.specs.declared.view.View.{View}
+use Rattle.gh_phase.specs.Vocabulary.{Acknowledge, Ended, Layout, LoadBegun, LoadGeneration, LoadPhase, Resumed, ResumeStage, View}
 use Rattle.gh_phase.specs.Handshake.{Awake, KeepsHandshake, Party, Resumes, Stage}
 use Rattle.gh_phase.specs.Listing.{gives, goes, opening, Resuming, transitions}
 

@@ -1,6 +1,6 @@
 -- A stop, as the phase word says it.
 use Rattle.std.specs.Prelude.{◌≡◌, ℕ, None}
-use Rattle.gh_base.specs.Packing.{phase_of}
+use Rattle.gh_phase.specs.Vocabulary.{phase_of}
 use Rattle.gh_phase.specs.Views.{run_phase}
 
 -- the phase word says that the world is to stop, for the stop of this number

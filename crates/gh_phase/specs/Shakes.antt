@@ -1,17 +1,8 @@
 -- What holds after every legal list of steps of actors that are in the handshake.
 use Rattle.std.specs.Prelude.{◌≡◌, ℕ, ◌↔◌, ◌+◌, ◌<◌, ◌⊎◌, if◌then◌else◌, List, [], ◌∷◌, Option, Some, None}
-use Rattle.gh_base.specs.declared.cell.Cell.TheVariants.{Phase, Gen, Begun, Ack}
-use Rattle.gh_base.specs.declared.cell.Ask.{Ask}
-use Rattle.gh_base.specs.declared.cell.Ask.TheVariants.{Load, Store}
+use Rattle.gh_phase.specs.Vocabulary.{Ack, Ask, Begun, Finished, Gen, GONE, Load, LoadPhase, Off, Phase, phase_of, RunPhase, Setting, state_of, Store, View, words_after}
 use Rattle.gh_base.specs.declared.machine.Entry.{Entry}
-use Rattle.gh_base.specs.declared.pack.TheConstants.{GONE}
 use Rattle.gh_base.specs.Cells.{Words}
-use Rattle.gh_base.specs.Lists.{Setting, state_of, words_after}
-use Rattle.gh_base.specs.Packing.{phase_of}
-use Rattle.gh_phase.specs.declared.resume.ResumeStage.TheVariants.{LoadPhase}
-use Rattle.gh_phase.specs.declared.view.RunPhase.{RunPhase}
-use Rattle.gh_phase.specs.declared.view.RunPhase.TheVariants.{Off, Finished}
-use Rattle.gh_phase.specs.declared.view.View.{View}
 use Rattle.gh_phase.specs.Handshake.{Acts, Awake, Gives, Gone, HandshakePlace, is_stop, last_of, Lead, Leads, Leaves, Party, Resumes, run_word, Stage, stop_word, Stopped}
 use Rattle.gh_phase.specs.Views.{run_phase}
 

@@ -1,7 +1,6 @@
 -- What the routine knows of its own numbers, whatever it is told.
 use Rattle.std.specs.Prelude.{◌+◌, ◌^◌, ◌<◌}
-use Rattle.gh_base.specs.declared.layout.Layout.{Layout}
-use Rattle.gh_phase.specs.declared.resume.Resume.{Resume}
+use Rattle.gh_phase.specs.Vocabulary.{Layout, Resume}
 use Rattle.gh_phase.specs.Views.{FitsView}
 
 -- the seat is that of a processor or a worker, who acknowledge stops

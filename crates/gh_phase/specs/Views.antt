@@ -1,17 +1,14 @@
 -- What an actor knows of the phase between two stops.
 use Rattle.std.specs.Prelude.{ℕ, ◌%◌, ◌^◌, ◌<◌, Option, Some, None}
+use Rattle.gh_phase.specs.Vocabulary.{Finished, Mark, Off, RunPhase, View}
 use Rattle.gh_base.specs.declared.pack.Phase.{Phase}
-use Rattle.gh_base.specs.declared.pack.Phase.TheVariants as phase
-use Rattle.gh_phase.specs.declared.view.RunPhase.{RunPhase}
-use Rattle.gh_phase.specs.declared.view.RunPhase.TheVariants.{Off, Mark, Finished}
-use Rattle.gh_phase.specs.declared.view.View.{View}
 
 -- the phase of a world that runs; none where it is to stop
 abbrev pub run_phase : Phase → Option RunPhase
-run_phase phase.Off = Some Off
-run_phase phase.Mark = Some Mark
-run_phase phase.Stop = None
-run_phase phase.Finished = Some Finished
+run_phase Phase.Off = Some Off
+run_phase Phase.Mark = Some Mark
+run_phase Phase.Stop = None
+run_phase Phase.Finished = Some Finished
 
 -- the sweep generation is kept in a page word's bits
 abbrev pub generation_found : (found : ℕ) → ℕ

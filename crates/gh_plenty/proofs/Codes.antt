@@ -1,7 +1,6 @@
 -- A number for each of so many things of each kind: those of a kind stand behind those of the kinds before it.
 use Rattle.std.proofs.Common.{◌≡◌, inl, inr, ℕ, zero, suc, ◌+◌, ◌*◌, ◌<◌, ◌≤◌, sym, ap, subst, arith, mul-le-mul_left}
-use Rattle.std.proofs.lemmas.Bool.{cases_lt}
-use Rattle.gh_lists.specs.Wants.{total}
+use Rattle.gh_plenty.proofs.Vocabulary.{cases_lt, total}
 
 module _ (f : ℕ → ℕ) where
   pub up : (m g : ℕ) → g < m → total f g + f g ≤ total f m

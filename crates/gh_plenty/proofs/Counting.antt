@@ -1,8 +1,8 @@
 -- Pairs of numbers that have numbers below a bound, no two the same, are no more than the bound.
 use Rattle.std.proofs.Common.{◌≡◌, ℕ, zero, suc, ◌+◌, ◌*◌, ◌/◌, ◌%◌, ◌<◌, ◌≤◌, Bool, true, false, eqb, ◌||◌, inl, inr, List, [], ◌∷◌, length, refl, sym, ap, subst, arith, mul-le-mul_left, mul_comm}
-use Rattle.std.specs.List.{AllByRecursion, IsDistinct, list_any}
-use Rattle.std.proofs.lemmas.Bool.{cases_lt, eqb-true}
+use Rattle.std.proofs.lemmas.Bool.{eqb-true}
 use Rattle.std.proofs.lemmas.Map.Steps.{length-le_from_distinct_below}
+use Rattle.gh_plenty.proofs.Vocabulary.{AllByRecursion, cases_lt, IsDistinct, list_any}
 
 module _ (Has : (i v : ℕ) → Type 0) (bound : ℕ) where
   -- one of these has this number

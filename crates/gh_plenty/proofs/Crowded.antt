@@ -1,36 +1,23 @@
 -- Where there is no room for an object of the one type, each slot of the arena is taken, but for those of one span of each processor: these are too many for the objects that there are.
 use Rattle.std.proofs.Common.{◌≡◌, ◌≢◌, ◌⊎◌, inl, inr, ℕ, suc, ◌+◌, ◌*◌, ◌/◌, ◌%◌, ◌<◌, ◌≤◌, List, length, refl, sym, ap, subst, ◌∙◌, arith, mul-le-mul_left, mul_comm}
-use Rattle.std.proofs.lemmas.Bool.{cases_lt}
-use Rattle.gh_base.specs.declared.cell.Cell.TheVariants as cell
-use Rattle.gh_base.specs.declared.layout.Layout.{Layout}
-use Rattle.gh_base.specs.declared.machine.Entry.{Entry}
-use Rattle.gh_base.specs.declared.operation.Op.{Op}
+use Rattle.gh_plenty.proofs.Vocabulary.{all_objects, AllStands, arena_of, cases_lt, Entry, Ever, HasPlenty, IsAnothers, IsPlacedAt, Layout, LaysOut, NoRoomFor, objects_of, Op, pages_of, Program, setup_of, Shape, slot_of, slot_words, slots_of, sought_by, sought_for, total}
+use Rattle.gh_base.specs.declared.cell.Cell.{Cell}
 use Rattle.gh_base.specs.declared.pack.PageWord.{PageWord}
 use Rattle.gh_base.specs.declared.pack.PageWord.TheVariants.{Body, Free, Head}
 use Rattle.gh_base.specs.declared.pack.SpanHead.{SpanHead}
-use Rattle.gh_base.specs.declared.shape.Shape.{Shape}
 use Rattle.gh_base.specs.declared.value.Name.{Name}
 use Rattle.gh_base.specs.Cells.{Words}
 use Rattle.gh_base.specs.Packing.{page_of}
 use Rattle.gh_base.specs.Rows.{alloc_words, row_bit}
 use Rattle.gh_base.specs.Shapes.{shape_at}
 use Rattle.gh_class.specs.declared.class.SizeClass.{SizeClass}
-use Rattle.gh_class.specs.declared.class.SizeClass.TheVariants as size
-use Rattle.gh_class.specs.Classes.{pages_of, slot_of, slot_words, slots_of}
 use Rattle.gh_heap.specs.Objects.{IsMade}
 use Rattle.gh_heap.specs.Spans.{IsFull, slot_count, slot_size}
 use Rattle.gh_alloc.specs.declared.sought.Sought.{Sought}
 use Rattle.gh_alloc.specs.declared.sought.Sought.TheVariants.{Small}
 use Rattle.gh_alloc.specs.Find.{span_for}
-use Rattle.gh_mutator.specs.New.{sought_by, sought_for}
-use Rattle.gh_model.specs.Ever.{Ever}
-use Rattle.gh_script.specs.Program.{Program}
-use Rattle.gh_world.specs.Below.{IsStanding as IsStandingObject, AllStands, IsPageFor}
+use Rattle.gh_world.specs.Below.{IsStanding as IsStandingObject, IsPageFor}
 use Rattle.gh_lists.specs.Lists as lists
-use Rattle.gh_lists.specs.Processors.{arena_of, IsAnothers, IsPlacedAt, NoRoomFor}
-use Rattle.gh_lists.specs.Wants.{total}
-use Rattle.gh_world.specs.World.{LaysOut, setup_of}
-use Rattle.gh_plenty.specs.Plenty.{all_objects, HasPlenty, objects_of}
 use Rattle.gh_plenty.proofs.Codes.{digits, one, up}
 use Rattle.gh_plenty.proofs.Counting.{HaveTheirOwn, no_more_pairs}
 
@@ -68,7 +55,7 @@ module _ (p : Program) (l : Layout) (es : List (Entry Op)) (plenty : HasPlenty p
   words = slot_of plenty.class / 8
 
   abbrev class : SizeClass
-  class = size.Small plenty.class
+  class = SizeClass.Small plenty.class
 
   -- what is sought for an object of the one type
   sought_is : sought_for plenty.shape ≡ Small (record { class = plenty.class; noscan = plenty.shape.noscan })
@@ -77,8 +64,8 @@ module _ (p : Program) (l : Layout) (es : List (Entry Op)) (plenty : HasPlenty p
   -- A page is a whole span of the one class.
   pub record IsSpanAt (q : ℕ) : Type 0 where
     pub h : SpanHead
-    pub there : page_of (w (cell.Page q)) ≡ Head h
-    pub class_is : h.class ≡ size.Small plenty.class
+    pub there : page_of (w (Cell.Page q)) ≡ Head h
+    pub class_is : h.class ≡ SizeClass.Small plenty.class
     pub noscan_is : h.noscan ≡ plenty.shape.noscan
 
   one_page : (span_for (sought_for plenty.shape)).pages ≡ 1
@@ -90,7 +77,7 @@ module _ (p : Program) (l : Layout) (es : List (Entry Op)) (plenty : HasPlenty p
   span_noscan : (span_for (sought_for plenty.shape)).noscan ≡ plenty.shape.noscan
   span_noscan = ap (λ (s : Sought). (span_for s).noscan) sought_is
 
-  of_page : (q : ℕ) (page : PageWord) → page_of (w (cell.Page q)) ≡ page → IsPageFor plenty.shape page → IsSpanAt q
+  of_page : (q : ℕ) (page : PageWord) → page_of (w (Cell.Page q)) ≡ page → IsPageFor plenty.shape page → IsSpanAt q
   of_page q Free is for = absurd for
   of_page q (Head h) is for = record { h = h; there = is; class_is = for.class ∙ span_class; noscan_is = for.noscan ∙ span_noscan }
   of_page q (Body b) is for = absurd (let some = for.distance.0 in let below = for.distance.1 in let pages = one_page in omega (arith, some, below, pages))
@@ -100,10 +87,10 @@ module _ (p : Program) (l : Layout) (es : List (Entry Op)) (plenty : HasPlenty p
       let none : t ≡ 0 = let many : length p.shapes ≡ 1 = ap length plenty.type in omega (arith, lt, many) in
       ap (λ (n : ℕ). shape_at p.shapes n) none ∙ ap (λ (shapes : List Shape). shape_at shapes 0) plenty.type
 
-  taken_page : (q : ℕ) → page_of (w (cell.Page q)) ≢ Free → IsSpanAt q
+  taken_page : (q : ℕ) → page_of (w (Cell.Page q)) ≢ Free → IsSpanAt q
   taken_page q taken = elim (stands.spans.types q) [
     | inl free ↦ absurd (taken free)
-    | inr for ↦ of_page q (page_of (w (cell.Page q))) refl (subst (λ (s : Shape). IsPageFor s (page_of (w (cell.Page q)))) (the_type for.0 for.1) for.2)
+    | inr for ↦ of_page q (page_of (w (Cell.Page q))) refl (subst (λ (s : Shape). IsPageFor s (page_of (w (Cell.Page q)))) (the_type for.0 for.1) for.2)
   ]
 
   -- What stands in its slots: objects; or it is a processor's, of which there are few.
@@ -176,10 +163,10 @@ module _ (p : Program) (l : Layout) (es : List (Entry Op)) (plenty : HasPlenty p
           let t = room.run q (omega (arith, lt, pages)) in
           let low = t.lies.0 in let high = t.lies.1 in
           let here : t.page ≡ q = omega (arith, low, high, pages) in
-          taken_page q (subst (λ (n : ℕ). page_of (w (cell.Page n)) ≢ Free) here t.taken.not_free)
+          taken_page q (subst (λ (n : ℕ). page_of (w (Cell.Page n)) ≢ Free) here t.taken.not_free)
 
-      not_large : (span_for (sought_for plenty.shape)).class ≢ size.Large
-      not_large large = let no : class ≡ size.Large = sym span_class ∙ large in cc
+      not_large : (span_for (sought_for plenty.shape)).class ≢ SizeClass.Large
+      not_large large = let no : class ≡ SizeClass.Large = sym span_class ∙ large in cc
 
       many : (h : SpanHead) → h.class ≡ class → slot_count h ≡ slots
       many h is = ap (λ (c : SizeClass). slot_count (record h { class = c })) is

@@ -1,11 +1,7 @@
 -- Generated scripts have plenty: at most 200,000 objects of three words, and 1,024 pages of 341 slots each.
 use Rattle.std.proofs.Common.{◌≡◌, ℕ, ◌*◌, ◌/◌, ◌<◌, ◌≤◌, refl, sym, subst, arith}
-use Rattle.gh_class.specs.declared.class.SizeClass.TheVariants.{Small}
-use Rattle.gh_class.specs.Classes.{class_number, page_counts, pages_of, size_class_of, slot_of, slot_sizes, slots_of}
+use Rattle.gh_plenty.proofs.Vocabulary.{all_objects, class_number, HasPlenty, is_new_statement, objects_of, page_counts, pages_of, size_class_of, slot_of, slot_sizes, slots_of, Small, statements_of, total}
 use Rattle.gh_script.specs.Generated.{generated_program, HasItsSize, node_shape}
-use Rattle.gh_script.specs.Program.{statements_of}
-use Rattle.gh_lists.specs.Wants.{total}
-use Rattle.gh_plenty.specs.Plenty.{all_objects, HasPlenty, is_new_statement, objects_of}
 use Rattle.gh_plenty.proofs.Counts.{count-le}
 
 -- the class of a node

@@ -5,3 +5,4 @@ pub mod Made
 pub mod Crowded
 pub mod Never
 pub mod Generated
+pub mod Vocabulary

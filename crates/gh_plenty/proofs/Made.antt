@@ -3,32 +3,18 @@ use Rattle.std.proofs.Common.{◌≡◌, inl, inr, ℕ, ◌+◌, ◌≤◌, ◌=
 use Rattle.std.specs.Option.{option_to_list}
 use Rattle.std.proofs.lemmas.Bool.{eq-eqb}
 use Rattle.std.proofs.lemmas.Bool.Decides.{eqb_tells}
-use Rattle.gh_base.specs.declared.layout.Layout.{Layout}
-use Rattle.gh_base.specs.declared.machine.Entry.{Entry}
-use Rattle.gh_base.specs.declared.operation.Op.{Op}
-use Rattle.gh_base.specs.declared.operation.Op.TheVariants as op
-use Rattle.gh_base.specs.declared.shape.Shape.{Shape}
+use Rattle.gh_plenty.proofs.Vocabulary.{acted, acted_by, acted_in, answer_of, Answered, answered, before_step, deeds, Entry, Ever, ever_after, ever_of, is_new_statement, IsExplained, Layout, makes_object, meaning, objects_of, OnlyPointsChange, Op, order_of, Outcome, processor_kind, Program, sets_global, Shape, statement_as_op, statements_of, stores_value, takes_answer}
 use Rattle.gh_base.specs.declared.value.Answer.{Answer}
-use Rattle.gh_base.specs.declared.value.Answer.TheVariants as answers
 use Rattle.gh_base.specs.Orders.{model_after}
-use Rattle.gh_lines.specs.Text.{Outcome}
 use Rattle.gh_model.specs.declared.EverValue.{EverValue}
-use Rattle.gh_model.specs.declared.EverValue.TheVariants as values
-use Rattle.gh_model.specs.Ever.{answer_of, Ever, ever_after, makes_object, sets_global, stores_value, takes_answer}
-use Rattle.gh_mutator.specs.Deeds.{acted, deeds, meaning, OnlyPointsChange, processor_kind}
 use Rattle.gh_mutator.specs.Listing.{Act, acts}
 use Rattle.gh_script.specs.declared.statement.Stmt.{Stmt}
-use Rattle.gh_script.specs.declared.statement.Stmt.TheVariants as statements
-use Rattle.gh_script.specs.Program.{Program, statement_as_op, statements_of}
-use Rattle.gh_lists.specs.Order.{acted_in, Answered, answered, before_step, ever_of, order_of}
-use Rattle.gh_world.specs.Runs.{acted_by, IsExplained}
 use Rattle.gh_world.specs.Turns.{is_statement_of}
-use Rattle.gh_plenty.specs.Plenty.{is_new_statement, objects_of}
 use Rattle.gh_plenty.proofs.Counts.{count, count-append, count-filter, count-map, count-reverse, count-same}
 
 -- the operation makes an object of goroutine g
 abbrev pub makes_for : ℕ → Op → Bool
-makes_for g (op.New h d t) = h == g
+makes_for g (Op.New h d t) = h == g
 makes_for g _ = false
 
 abbrev pub made_in : ℕ → List Answered → ℕ
@@ -37,17 +23,17 @@ made_in g xs = count (λ (x : Answered). makes_for g x.op) xs
 -- Of the other statements none makes an object.
 
 takes_none : (e : Ever) (g d : ℕ) (a : Answer) → (takes_answer e g d a).made ≡ e.made
-takes_none e g d answers.Nil = refl
-takes_none e g d (answers.Int n) = refl
-takes_none e g d (answers.Ref n) = refl
+takes_none e g d Answer.Nil = refl
+takes_none e g d (Answer.Int n) = refl
+takes_none e g d (Answer.Ref n) = refl
 takes_none e g d _ = refl
 
 stores_none : (e : Ever) (k : ℕ) (base v : EverValue) (a : Answer) → (stores_value e base k v a).made ≡ e.made
-stores_none e k (values.Ref n) v answers.Done = refl
+stores_none e k (EverValue.Ref n) v Answer.Done = refl
 stores_none e k _ v _ = refl
 
 sets_none : (e : Ever) (k : ℕ) (v : EverValue) (a : Answer) → (sets_global e k v a).made ≡ e.made
-sets_none e k v answers.Done = refl
+sets_none e k v Answer.Done = refl
 sets_none e k v _ = refl
 
 module _ (shapes : List Shape) (e : Ever) (g : ℕ) where
@@ -65,7 +51,7 @@ module _ (shapes : List Shape) (e : Ever) (g : ℕ) where
     go true le = le
     go false le = le
 
-  new_made : (h d t : ℕ) (full : Bool) (x : Answered) → (makes_object shapes e h d t (cond full answers.Full (answer_of shapes e (op.New h d t)))).made g ≤ e.made g + length (cond (eqb h g) (x ∷ []) [])
+  new_made : (h d t : ℕ) (full : Bool) (x : Answered) → (makes_object shapes e h d t (cond full Answer.Full (answer_of shapes e (Op.New h d t)))).made g ≤ e.made g + length (cond (eqb h g) (x ∷ []) [])
   new_made h d t true x = omega arith
   new_made h d t false x = grows h x
 
@@ -73,14 +59,14 @@ module _ (shapes : List Shape) (e : Ever) (g : ℕ) where
   same made is = let one = ap (λ (f : ℕ → ℕ). f g) is in omega (arith, one)
 
   -- one act more
-  act_made : (o : Op) (full : Bool) (x : Answered) → x.op ≡ o → (ever_after shapes e o (cond full answers.Full (answer_of shapes e o))).made g ≤ e.made g + made_in g (x ∷ [])
-  act_made o full x is = subst (λ (y : Op). (ever_after shapes e o (cond full answers.Full (answer_of shapes e o))).made g ≤ e.made g + length (cond (makes_for g y) (x ∷ []) [])) (sym is) (go o) where
-    go : (y : Op) → (ever_after shapes e y (cond full answers.Full (answer_of shapes e y))).made g ≤ e.made g + length (cond (makes_for g y) (x ∷ []) [])
-    go (op.New h d t) = new_made h d t full x
-    go (op.Load h d b k) = same _ (takes_none e h d _)
-    go (op.Store h b k v) = same _ (stores_none e k (e.register h b) (e.register h v) _)
-    go (op.GetGlobal h d k) = same _ (takes_none e h d _)
-    go (op.SetGlobal h k v) = same _ (sets_none e k (e.register h v) _)
+  act_made : (o : Op) (full : Bool) (x : Answered) → x.op ≡ o → (ever_after shapes e o (cond full Answer.Full (answer_of shapes e o))).made g ≤ e.made g + made_in g (x ∷ [])
+  act_made o full x is = subst (λ (y : Op). (ever_after shapes e o (cond full Answer.Full (answer_of shapes e o))).made g ≤ e.made g + length (cond (makes_for g y) (x ∷ []) [])) (sym is) (go o) where
+    go : (y : Op) → (ever_after shapes e y (cond full Answer.Full (answer_of shapes e y))).made g ≤ e.made g + length (cond (makes_for g y) (x ∷ []) [])
+    go (Op.New h d t) = new_made h d t full x
+    go (Op.Load h d b k) = same _ (takes_none e h d _)
+    go (Op.Store h b k v) = same _ (stores_none e k (e.register h b) (e.register h v) _)
+    go (Op.GetGlobal h d k) = same _ (takes_none e h d _)
+    go (Op.SetGlobal h k v) = same _ (sets_none e k (e.register h v) _)
     go _ = omega arith
 
 module _ (p : Program) (l : Layout) (changed : OnlyPointsChange) where
@@ -116,7 +102,7 @@ module _ (p : Program) (l : Layout) (es : List (Entry Op)) (o : Outcome) (run : 
   is_its : (x : Answered) → makes_for g x.op ≡ true → is_statement_of g x.op ≡ true
   is_its x is = go x.op is where
     go : (y : Op) → makes_for g y ≡ true → is_statement_of g y ≡ true
-    go (op.New h d t) e = e
+    go (Op.New h d t) e = e
     go _ e = absurd (cc)
 
   all_its : made_in g (acted_by g (acted_in p.shapes l es)) ≡ made_in g (order_of p.shapes l es)
@@ -125,15 +111,15 @@ module _ (p : Program) (l : Layout) (es : List (Entry Op)) (o : Outcome) (run : 
       ∙ count-reverse (λ (x : Answered). makes_for g x.op) (order_of p.shapes l es)
 
   of_statement : (s : Stmt) → makes_for g (statement_as_op g s) ≡ is_new_statement s
-  of_statement (statements.New d t) = eq-eqb g g refl
-  of_statement (statements.Load d b k) = refl
-  of_statement (statements.Store b k v) = refl
-  of_statement (statements.GetGlobal d k) = refl
-  of_statement (statements.SetGlobal k v) = refl
-  of_statement (statements.Int d n) = refl
-  of_statement (statements.Move d s) = refl
-  of_statement (statements.Nil d) = refl
-  of_statement statements.Gc = refl
+  of_statement (Stmt.New d t) = eq-eqb g g refl
+  of_statement (Stmt.Load d b k) = refl
+  of_statement (Stmt.Store b k v) = refl
+  of_statement (Stmt.GetGlobal d k) = refl
+  of_statement (Stmt.SetGlobal k v) = refl
+  of_statement (Stmt.Int d n) = refl
+  of_statement (Stmt.Move d s) = refl
+  of_statement (Stmt.Nil d) = refl
+  of_statement Stmt.Gc = refl
 
   pub of_script : made_in g (order_of p.shapes l es) ≡ objects_of p g
   of_script =

@@ -1,27 +1,11 @@
 -- No operation of a whole run is answered `full` where the script has plenty: at its step there would be no room.
-use Rattle.std.proofs.Common.{◌≡◌, ℕ, ◌/◌, ◌<◌, ◌≤◌, Bool, not, true, false, List, [], ◌∷◌, ◌++◌, length, refl, ap, subst, arith, Some}
-use Rattle.std.specs.Prelude.{nat_lt, ◌&&◌}
+use Rattle.std.proofs.Common.{◌≡◌, ℕ, ◌/◌, ◌<◌, ◌≤◌, Bool, not, true, false, List, [], ◌∷◌, ◌++◌, length, refl, ap, subst, arith, Some, nat_lt, ◌&&◌}
 use Rattle.std.proofs.lemmas.Bool.{ltb-true}
-use Rattle.gh_base.specs.declared.layout.Layout.{Layout}
+use Rattle.gh_plenty.proofs.Vocabulary.{AllStands, arena_of, Awaited, Entry, EveryListOfAScriptStands, FoundNoRoom, goroutine_is_over, has_left, has_more, HasPlenty, in_range, is_of, IsExplained, IsFullFor, Layout, LaysOut, may_begin_of, may_leave, may_run, NeverFull, NoRoomFor, objects_of, OnlyPointsChange, Op, order_of, Outcome, processor_kind, Program, setting_of, setup_of, Shape, slot_of, slots_of, sought_for, WellFormed, words_in}
 use Rattle.gh_base.specs.declared.limits.TheConstants.{REGISTERS}
-use Rattle.gh_base.specs.declared.machine.Entry.{Entry}
-use Rattle.gh_base.specs.declared.operation.Op.{Op}
-use Rattle.gh_base.specs.declared.operation.Op.TheVariants as op
-use Rattle.gh_base.specs.declared.shape.Shape.{Shape}
 use Rattle.gh_base.specs.Lists.{Begins, by, Legal, state_of}
-use Rattle.gh_class.specs.Classes.{slot_of, slots_of}
-use Rattle.gh_lines.specs.Text.{Outcome}
-use Rattle.gh_mutator.specs.Deeds.{OnlyPointsChange, processor_kind}
-use Rattle.gh_mutator.specs.New.{sought_for}
-use Rattle.gh_script.specs.Program.{Program, WellFormed}
-use Rattle.gh_world.specs.Below.{AllStands}
 use Rattle.gh_mutator.specs.Sound.{has_names, has_room}
-use Rattle.gh_lists.specs.Order.{goroutine_is_over, has_left, in_range, order_of}
-use Rattle.gh_lists.specs.Processors.{arena_of, has_more, is_of, IsFullFor, may_leave, may_run, NoRoomFor}
-use Rattle.gh_world.specs.Runs.{Awaited, EveryListOfAScriptStands, FoundNoRoom, IsExplained, words_in}
 use Rattle.gh_world.specs.Wishes.{wishes_of}
-use Rattle.gh_world.specs.World.{LaysOut, may_begin_of, setting_of, setup_of}
-use Rattle.gh_plenty.specs.Plenty.{HasPlenty, NeverFull, objects_of}
 use Rattle.gh_plenty.proofs.Crowded.{LieWithin, no_room_is_none, the_type}
 use Rattle.gh_plenty.proofs.Made.{ever, later_more, made_few, made_in, of_others, of_script}
 
@@ -40,11 +24,11 @@ module _ (p : Program) (l : Layout) where
   behind (e ∷ later) es legal = behind later es legal.0
 
   -- what is begun is of a type that there is
-  type_in : (a : ℕ) (es : List (Entry Op)) (g d t : ℕ) → may_begin_of p l a es (op.New g d t) ≡ true → t < length p.shapes
+  type_in : (a : ℕ) (es : List (Entry Op)) (g d t : ℕ) → may_begin_of p l a es (Op.New g d t) ≡ true → t < length p.shapes
   type_in a es g d t may =
       let z = arena_of p.shapes l in
       let m = state_of (processor_kind p.shapes l) a es in
-      let o = op.New g d t in
+      let o = Op.New g d t in
       let all = may_run z a m es o in
       let b = first-of (all && not (has_left es) && has_more (wishes_of p) es o && may_leave z a es o) (has_room m o) may in
       let c = first-of (all && not (has_left es) && has_more (wishes_of p) es o) (may_leave z a es o) b in
@@ -54,10 +38,10 @@ module _ (p : Program) (l : Layout) where
       let r = first-of range (is_of z a (Some g)) (first-of (range && is_of z a (Some g)) (has_names m o) f) in
       ltb-true t (length p.shapes) (last-of (nat_lt g l.goroutines && nat_lt d REGISTERS) (nat_lt t (length p.shapes)) r)
 
-  type_of : (a : ℕ) (es : List (Entry Op)) (g d t : ℕ) → Legal (setting_of p l) es → Awaited p l a es (op.New g d t) → t < length p.shapes
+  type_of : (a : ℕ) (es : List (Entry Op)) (g d t : ℕ) → Legal (setting_of p l) es → Awaited p l a es (Op.New g d t) → t < length p.shapes
   type_of a es g d t legal f =
       let from : Legal (setting_of p l) (f.first ∷ f.earlier) = behind f.since (f.first ∷ f.earlier) (subst (Legal (setting_of p l)) f.there legal) in
-      let begins : Begins (setting_of p l) f.first.actor f.earlier (Some (op.New g d t)) = subst (Begins (setting_of p l) f.first.actor f.earlier) f.began from.1.begins in
+      let begins : Begins (setting_of p l) f.first.actor f.earlier (Some (Op.New g d t)) = subst (Begins (setting_of p l) f.first.actor f.earlier) f.began from.1.begins in
       type_in f.first.actor (by f.first.actor f.earlier) g d t begins.1
 
 module _ (p : Program) (l : Layout) (es : List (Entry Op)) (o : Outcome) (plenty : HasPlenty p) (laid : LaysOut p l) (run : IsExplained p l es o) (formed : WellFormed p) (every : EveryListOfAScriptStands) (changed : OnlyPointsChange)
@@ -87,7 +71,7 @@ module _ (p : Program) (l : Layout) (es : List (Entry Op)) (o : Outcome) (plenty
     none g le = let made = so_far g in let all = of_others p l es o run g le in omega (arith, made, all)
 
     refused : (y : Op) → x ≡ y → IsFullFor (arena_of p.shapes l) f.step.entry.actor (words_in p l before) y → ⊥
-    refused (op.New g d t) is room =
+    refused (Op.New g d t) is room =
         let type : t < length p.shapes = type_of p l f.step.entry.actor before g d t legal (subst (Awaited p l f.step.entry.actor before) is f.waited) in
         no_room_is_none p l before plenty stands lie few none f.step.entry.actor (subst (λ (s : Shape). NoRoomFor (arena_of p.shapes l) f.step.entry.actor (words_in p l before) (sought_for s)) (the_type p l before plenty stands lie t type) room) laid
     refused _ is room = absurd room

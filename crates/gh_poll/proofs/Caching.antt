@@ -1,24 +1,11 @@
 -- What is known of the cached spans stays where one of them changes.
-use Rattle.std.proofs.Common.{◌≡◌, ℕ, ◌/◌, List, [], length, ◌∙◌, sym, subst, Option, None, arith}
+use Rattle.std.proofs.Common.{◌≡◌, ℕ, ◌/◌, List, [], length, ◌∙◌, sym, subst, Option, None, arith, slice_index_or, slice_set}
 use Rattle.std.proofs.Math.ListN.{set}
 use Rattle.std.proofs.lemmas.List.{length-set}
-use Rattle.gh_base.specs.declared.layout.Layout.{Layout}
-use Rattle.std.specs.Prelude.{slice_index_or, slice_set}
-use Rattle.gh_base.specs.declared.limits.TheConstants.{REGISTERS}
-use Rattle.gh_base.specs.Reading.{read_after_set}
-use Rattle.gh_class.specs.Classes.{span_index}
+use Rattle.gh_poll.proofs.Vocabulary.{CachedSpan, FitsCache, IsCached, Large, Layout, Local, Polling, read_after_set, REGISTERS, Small, SoundCached, SoundLocal, SoundPolling, span_index, Value}
 use Rattle.gh_class.specs.declared.class.SpanClass.{SpanClass}
-use Rattle.gh_alloc.specs.declared.sought.CachedSpan.{CachedSpan}
 use Rattle.gh_alloc.specs.declared.sought.Sought.{Sought}
-use Rattle.gh_alloc.specs.declared.sought.Sought.TheVariants.{Small, Large}
-use Rattle.gh_alloc.specs.FindSound.{IsCached}
-use Rattle.gh_poll.specs.Cached.{SoundCached}
-use Rattle.gh_poll.specs.GiveSound.{FitsCache}
-use Rattle.gh_base.specs.declared.value.Value.{Value}
 use Rattle.gh_poll.specs.Local.{cache_with, stacks_with, with_register_value}
-use Rattle.gh_poll.specs.Poll.{Polling}
-use Rattle.gh_poll.specs.declared.poll.Local.{Local}
-use Rattle.gh_poll.specs.PollSound.{SoundLocal, SoundPolling}
 
 -- the cached span of a span class is this now
 half : (c : SpanClass) (i : ℕ) → span_index c ≡ i → c.class ≡ i / 2

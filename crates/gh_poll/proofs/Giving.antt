@@ -1,12 +1,8 @@
 -- What the giving back leaves, step by step.
 use Rattle.std.proofs.Common.{◌≡◌, ℕ, ◌+◌, ◌/◌, Bool, true, false, cond, eqb, drop, Option, None, refl, sym, subst, arith}
+use Rattle.gh_poll.proofs.Vocabulary.{after_buffer, buffer_fine, CachedSpan, Ended, first_fine, FitsCache, GiveBuffer, GiveSpan, GiveStage, Giving, giving_buffer, GivingFacts, goes, goes_at, Layout, Lock, none_cached, read_replicate, SoundCached, stage_from, Unlock}
 use Rattle.gh_wbuf.specs.BufferGiving as buffer
-use Rattle.gh_poll.specs.declared.give.GiveStage.TheVariants.{Lock, GiveSpan, Unlock, GiveBuffer, Ended}
-use Rattle.gh_poll.specs.Give.{after_buffer, at_stage, Giving, giving_buffer, goes, goes_at, none_cached, stage_from}
-use Rattle.gh_poll.specs.GiveSound.{FitsCache}
-use Rattle.gh_poll.specs.Cached.{SoundCached}
-use Rattle.gh_poll.specs.Giving.{buffer_fine, GivingFacts, first_fine}
-use Rattle.gh_poll.proofs.Vocabulary.{CachedSpan, GiveStage, Layout, read_replicate}
+use Rattle.gh_poll.specs.Give.{at_stage}
 
 abbrev no_span : Option CachedSpan
 no_span = None

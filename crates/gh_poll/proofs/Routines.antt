@@ -1,59 +1,38 @@
 -- The scan of a stack, a poll and a wait are routines: by their stages. Of what they run it is known that it is one.
-use Rattle.std.proofs.Common.{◌≡◌, ℕ, ◌+◌, ◌^◌, ◌<◌, ◌≤◌, Bool, true, false, cond, List, [], ◌∷◌, drop, length, Option, Some, None, refl, ap, mod-lt, arith}
-use Rattle.std.specs.Prelude.{is_none, slice_index_or}
-use Rattle.std.proofs.lemmas.Bool.Decides.{nat_tests}
+use Rattle.std.proofs.Common.{◌≡◌, ℕ, ◌+◌, ◌^◌, ◌<◌, ◌≤◌, Bool, true, false, cond, List, [], ◌∷◌, drop, length, Option, Some, None, refl, ap, mod-lt, arith, is_none, slice_index_or}
 use Rattle.std.proofs.lemmas.List.{length-drop, length-set}
+use Rattle.gh_poll.proofs.Vocabulary.{cell_of, due_scans, GiveStage, Held, IsHeld, IsRoutine, Layout, MarkStackStage, nat_tests, phase_of, Polling, PollsOn, PollStage, reference_in, REGISTERS, Resumed, run_phase, RunPhase, Runs, Shaded, SoundGiving, SoundPolling, SoundRoomFinding, StackMarking, StackStage, Value, Waiting, WaitStage}
 use Rattle.gh_base.specs.Blind.{is_store}
 use Rattle.gh_base.specs.Cells.{InRange}
-use Rattle.gh_base.specs.declared.limits.TheConstants.{REGISTERS}
-use Rattle.gh_base.specs.declared.value.Value.TheVariants as value
 use Rattle.gh_base.specs.Footprints.{FootprintsHold, Writes}
-use Rattle.gh_base.specs.Holding.{IsHeld}
-use Rattle.gh_base.specs.Machines.{IsRoutine, Runs}
-use Rattle.gh_phase.specs.declared.view.RunPhase.TheVariants as run
 use Rattle.gh_phase.specs.Listing as resume
 use Rattle.gh_phase.specs.Sound.{SoundResuming}
-use Rattle.gh_scan.specs.Listing.{reference_in}
 use Rattle.gh_shade.specs.declared.shade.ShadeStage.TheVariants.{WaitForRoom}
-use Rattle.gh_shade.specs.declared.shade.Shaded.TheVariants as shaded
 use Rattle.gh_shade.specs.Listing as shade
 use Rattle.gh_shade.specs.Sound.{IsReference, SoundShading}
-use Rattle.gh_stack.specs.declared.scan_stack.StackStage.TheVariants as stack_stage
 use Rattle.gh_stack.specs.Listing as stack
 use Rattle.gh_stack.specs.Sound as stack_sound
 use Rattle.gh_wbuf.specs.RoomFinding as room
-use Rattle.gh_wbuf.specs.Sound.{SoundRoomFinding}
-use Rattle.gh_poll.specs.declared.mark_stack.MarkStackStage.TheVariants as mark_stage
-use Rattle.gh_poll.specs.declared.poll.PollStage.TheVariants as poll_stage
-use Rattle.gh_poll.specs.declared.wait.WaitStage.{WaitStage}
-use Rattle.gh_poll.specs.declared.wait.WaitStage.TheVariants as wait_stage
-use Rattle.gh_poll.specs.Due.{due_scans}
 use Rattle.gh_poll.specs.Give as give
 use Rattle.gh_poll.specs.GiveSound as gives
-use Rattle.gh_poll.specs.GiveSound.{SoundGiving}
 use Rattle.gh_poll.specs.MarkStack as mark
-use Rattle.gh_poll.specs.MarkStack.{StackMarking}
 use Rattle.gh_poll.specs.MarkStackSound as marks
 use Rattle.gh_poll.specs.MarkStackSound.{SoundStackMarking}
 use Rattle.gh_poll.specs.Poll as poll
-use Rattle.gh_poll.specs.Poll.{Polling}
 use Rattle.gh_poll.specs.PollSound as polls
-use Rattle.gh_poll.specs.PollSound.{SoundPolling}
 use Rattle.gh_poll.specs.Wait as wait
-use Rattle.gh_poll.specs.Wait.{PollsOn, Waiting}
 use Rattle.gh_poll.proofs.Sound.{buffer_opens}
 use Rattle.gh_poll.proofs.StackMarking.{begins_going, stores_then, told_going, waits_then}
-use Rattle.gh_poll.proofs.Vocabulary.{cell_of, GiveStage, Held, Layout, MarkStackStage, phase_of, PollStage, Resumed, run_phase, RunPhase, Shaded, StackStage, Value}
 
 -- what a register names, of those behind this one
 first_below : (i : ℕ) (values : List Value) → i + length values ≤ REGISTERS → stack_sound.SoundStage (stack.first_reference i values)
 first_below i [] few = tt
-first_below i (value.Ref r ∷ values) few = omega arith
-first_below i (value.Nil ∷ values) few = first_below (i + 1) values (omega arith)
-first_below i (value.Int n ∷ values) few = first_below (i + 1) values (omega arith)
+first_below i (Value.Ref r ∷ values) few = omega arith
+first_below i (Value.Nil ∷ values) few = first_below (i + 1) values (omega arith)
+first_below i (Value.Int n ∷ values) few = first_below (i + 1) values (omega arith)
 
 told_sound : (registers : List Value) (stage : StackStage) → length registers ≡ REGISTERS → stack_sound.SoundStage stage → stack_sound.SoundStage (stack.after_shade registers stage)
-told_sound registers (stack_stage.Shade register r) whole h = first_below (register + 1) (drop (register + 1) registers) (omega (arith, length-drop (register + 1) registers, whole, h))
+told_sound registers (StackStage.Shade register r) whole h = first_below (register + 1) (drop (register + 1) registers) (omega (arith, length-drop (register + 1) registers, whole, h))
 told_sound registers stage whole h = grind arith
 
 reference_near : (l : Layout) (r : ℕ) → IsReference l (reference_in l r)
@@ -78,7 +57,7 @@ module _ (l : Layout) (k : Known l) where
   stage_sound held scan (Some r) fits on e = record { runs = record { sound = record { reference = reference_near l r; held = fits; stage = tt }; busy = refl }; scan_waits = waits_then scan.stage r e }
 
   shade_sound : (m : StackMarking) (sh : shade.Shading) (out : Option Shaded) → SoundStackMarking l m → SoundShading l sh → stack.is_waiting m.scan.stage ≡ true → shade.given sh ≡ out → SoundStackMarking l (mark.after_shade l m sh out)
-  shade_sound m sh (Some shaded.Done) s h waits e = record {
+  shade_sound m sh (Some Shaded.Done) s h waits e = record {
     seat = s.seat;
     held = h.held;
     scan = scan_sound m.scan s.scan;
@@ -90,10 +69,10 @@ module _ (l : Layout) (k : Known l) where
   find_sound m sh r out s h at f waits e = grind (arith, nat_tests)
 
   marks_at : (m : StackMarking) (p : MarkStackStage) (found : ℕ) → found < 2 ^ 64 → SoundStackMarking l m → marks.SoundStage l m.scan p → SoundStackMarking l (mark.goes_at l m p found)
-  marks_at m (mark_stage.Shading sh) found few s h = shade_sound m (shade.goes sh found) (shade.gives sh found) s (k.shades.keeps sh found few h.runs.sound h.runs.busy) h.scan_waits refl
-  marks_at m (mark_stage.FindRoom sh r) found few s h = find_sound m sh (room.goes l r found) (room.gives l r found) s h.shade h.waits (k.rooms.keeps r found few h.runs.sound h.runs.busy) h.scan_waits refl
-  marks_at m mark_stage.Store found few s h = record { seat = s.seat; held = s.held; scan = s.scan; stage = tt }
-  marks_at m mark_stage.Ended found few s h = record { seat = s.seat; held = s.held; scan = s.scan; stage = tt }
+  marks_at m (MarkStackStage.Shading sh) found few s h = shade_sound m (shade.goes sh found) (shade.gives sh found) s (k.shades.keeps sh found few h.runs.sound h.runs.busy) h.scan_waits refl
+  marks_at m (MarkStackStage.FindRoom sh r) found few s h = find_sound m sh (room.goes l r found) (room.gives l r found) s h.shade h.waits (k.rooms.keeps r found few h.runs.sound h.runs.busy) h.scan_waits refl
+  marks_at m MarkStackStage.Store found few s h = record { seat = s.seat; held = s.held; scan = s.scan; stage = tt }
+  marks_at m MarkStackStage.Ended found few s h = record { seat = s.seat; held = s.held; scan = s.scan; stage = tt }
 
   mark_writes : (m : StackMarking) → Writes mark.writes (mark.asks m)
   mark_writes m =
@@ -141,13 +120,13 @@ module _ (l : Layout) (k : Known l) where
       at p _ s (record { there = there; runs = stack_opens p.seat g p.local.view.begun (slice_index_or p.local.stacks g []) p.local.held s.seat there (s.local.rows g (omega (arith, there, l.limits.goroutines_fit.1))) s.local.held })
 
   marks_sound : (p : Polling) (phase : RunPhase) → SoundPolling l p → SoundPolling l (poll.marks_then l p phase)
-  marks_sound p run.Mark s = scans_sound p (poll.due l p) s refl
-  marks_sound p run.Off s = at p poll_stage.Ended s tt
-  marks_sound p run.Finished s = at p poll_stage.Ended s tt
+  marks_sound p RunPhase.Mark s = scans_sound p (poll.due l p) s refl
+  marks_sound p RunPhase.Off s = at p PollStage.Ended s tt
+  marks_sound p RunPhase.Finished s = at p PollStage.Ended s tt
 
   stops_sound : (p : Polling) (g : give.Giving) (stops : ℕ) (busy : Bool) → SoundPolling l p → SoundGiving l g → stops < 2 ^ 62 → give.is_busy g.stage ≡ busy →
-      SoundPolling l (cond busy (poll.at_stage p (poll_stage.Giving g stops)) (record p { local = record (p.local) { cache = g.cache; held = g.held }; stage = poll_stage.Resuming (resume.opening p.seat stops p.local.view) }))
-  stops_sound p g stops true s h few e = at p (poll_stage.Giving g stops) s (record { runs = record { sound = h; busy = e }; number = few })
+      SoundPolling l (cond busy (poll.at_stage p (PollStage.Giving g stops)) (record p { local = record (p.local) { cache = g.cache; held = g.held }; stage = PollStage.Resuming (resume.opening p.seat stops p.local.view) }))
+  stops_sound p g stops true s h few e = at p (PollStage.Giving g stops) s (record { runs = record { sound = h; busy = e }; number = few })
   stops_sound p g stops false s h few e = let room = h.room in let cache = h.cache in let held = h.held in grind arith
 
   giving_stage : (held : Option Held) (q : GiveStage) → IsHeld l held → gives.SoundStage l (give.begins held q)
@@ -161,23 +140,23 @@ module _ (l : Layout) (k : Known l) where
       stops_sound p g stops (give.is_busy g.stage) s h few refl
 
   resume_sound : (p : Polling) (r : resume.Resuming) (out : Option Resumed) → SoundPolling l p → SoundResuming l r → resume.given r ≡ out → SoundPolling l (poll.after_resume l p r out)
-  resume_sound p r None s h e = at p (poll_stage.Resuming r) s (record { sound = h; busy = ap is_none e })
+  resume_sound p r None s h e = at p (PollStage.Resuming r) s (record { sound = h; busy = ap is_none e })
   resume_sound p r (Some out) s h e = let fits = h.view in marks_sound (poll.resumed p out) out.view.phase (grind arith)
 
   mark_sound : (p : Polling) (g : ℕ) (m : StackMarking) (out : Option (Unit {0})) → SoundPolling l p → g < l.goroutines → SoundStackMarking l m → mark.given m.stage ≡ out → SoundPolling l (poll.after_mark p g m out)
-  mark_sound p g m None s there h e = at p (poll_stage.Marking g m) s (record { there = there; runs = record { sound = h; busy = ap is_none e } })
+  mark_sound p g m None s there h e = at p (PollStage.Marking g m) s (record { there = there; runs = record { sound = h; busy = ap is_none e } })
   mark_sound p g m (Some x) s there h e = let held = h.held in let many = length-set p.local.scanned g p.local.view.begun in counted_sound (poll.scanned p g m.held) (grind arith)
 
   room_sound : (p : Polling) (r : room.RoomFinding) (out : Option Held) → SoundPolling l p → SoundRoomFinding l r → room.given r ≡ out → SoundPolling l (poll.after_room p r out)
   room_sound p r out s f e = let stage = f.stage in grind (arith, nat_tests)
 
   polls_at : (p : Polling) (q : PollStage) (found : ℕ) → found < 2 ^ 64 → SoundPolling l p → polls.SoundStage l q → SoundPolling l (poll.goes_at l p q found)
-  polls_at p poll_stage.LoadPhase found few s h = phase_sound p (phase_of found).stops (run_phase (phase_of found).phase) s (omega arith)
-  polls_at p (poll_stage.Giving g stops) found few s h = stops_sound p (give.goes g found) stops (give.is_busy (give.goes g found).stage) s (k.gives.keeps g found few h.runs.sound h.runs.busy) h.number refl
-  polls_at p (poll_stage.Resuming r) found few s h = resume_sound p (resume.goes r found) (resume.gives r found) s (k.resumes.keeps r found few h.sound h.busy) refl
-  polls_at p (poll_stage.Marking g m) found few s h = mark_sound p g (mark.goes l m found) (mark.gives l m found) s h.there (marking_is_a_routine.keeps m found few h.runs.sound h.runs.busy) refl
-  polls_at p (poll_stage.FindRoom r) found few s h = room_sound p (room.goes l r found) (room.gives l r found) s (k.rooms.keeps r found few h.sound h.busy) refl
-  polls_at p poll_stage.Ended found few s h = at p poll_stage.Ended s tt
+  polls_at p PollStage.LoadPhase found few s h = phase_sound p (phase_of found).stops (run_phase (phase_of found).phase) s (omega arith)
+  polls_at p (PollStage.Giving g stops) found few s h = stops_sound p (give.goes g found) stops (give.is_busy (give.goes g found).stage) s (k.gives.keeps g found few h.runs.sound h.runs.busy) h.number refl
+  polls_at p (PollStage.Resuming r) found few s h = resume_sound p (resume.goes r found) (resume.gives r found) s (k.resumes.keeps r found few h.sound h.busy) refl
+  polls_at p (PollStage.Marking g m) found few s h = mark_sound p g (mark.goes l m found) (mark.gives l m found) s h.there (marking_is_a_routine.keeps m found few h.runs.sound h.runs.busy) refl
+  polls_at p (PollStage.FindRoom r) found few s h = room_sound p (room.goes l r found) (room.gives l r found) s (k.rooms.keeps r found few h.sound h.busy) refl
+  polls_at p PollStage.Ended found few s h = at p PollStage.Ended s tt
 
   poll_writes : (p : Polling) → Writes poll.writes (poll.asks p)
   poll_writes p =
@@ -213,10 +192,10 @@ module _ (l : Layout) (k : Known l) where
   polling_sound w s = grind arith
 
   waits_at : (w : Waiting) (q : WaitStage) (found : ℕ) → found < 2 ^ 64 → SoundPolling l w.poll → PollsOn w.poll q → SoundWait (wait.goes_at l w q found)
-  waits_at w wait_stage.Want found few s on = polling_sound w s
-  waits_at w wait_stage.Polling found few s on = polled_sound w (poll.goes l w.poll found) (poll.gives l w.poll found) (polling_is_a_routine.keeps w.poll found few s on) refl
-  waits_at w wait_stage.LoadSwept found few s on = let again = polling_sound w s in grind arith
-  waits_at w wait_stage.Ended found few s on = polling_sound w s
+  waits_at w WaitStage.Want found few s on = polling_sound w s
+  waits_at w WaitStage.Polling found few s on = polled_sound w (poll.goes l w.poll found) (poll.gives l w.poll found) (polling_is_a_routine.keeps w.poll found few s on) refl
+  waits_at w WaitStage.LoadSwept found few s on = let again = polling_sound w s in grind arith
+  waits_at w WaitStage.Ended found few s on = polling_sound w s
 
   pub waiting_is_a_routine : IsRoutine l (wait.listing l)
   waiting_is_a_routine = record {

@@ -1,26 +1,14 @@
 -- What a processor runs among a collector stays sound, and its steps lie in the heap: by the stages. Of its routines it is known that they are routines.
-use Rattle.std.proofs.Common.{◌≡◌, ℕ, zero, suc, ◌+◌, ◌/◌, ◌^◌, ◌<◌, ◌≤◌, Bool, true, false, cond, eqb, List, [], ◌∷◌, drop, length, Option, Some, None, refl, sym, ap, subst, ◌∙◌, arith}
-use Rattle.std.specs.Prelude.{is_none, slice_index_or}
-use Rattle.std.proofs.lemmas.Bool.Decides.{nat_tests}
+use Rattle.std.proofs.Common.{◌≡◌, ℕ, zero, suc, ◌+◌, ◌/◌, ◌^◌, ◌<◌, ◌≤◌, Bool, true, false, cond, eqb, List, [], ◌∷◌, drop, length, Option, Some, None, refl, sym, ap, subst, ◌∙◌, arith, is_none, slice_index_or}
 use Rattle.std.proofs.lemmas.List.{drop-drop}
-use Rattle.gh_base.specs.Holding.{IsHeld}
-use Rattle.gh_base.specs.Machines.{IsRoutine}
-use Rattle.gh_class.specs.Classes.{pages_of}
+use Rattle.gh_poll.proofs.Vocabulary.{CachedSpan, first_cached, FitsCache, GiveStage, Giving, Held, IsHeld, IsRoutine, Layout, LeaveStage, nat_tests, pages_of, SoundBufferGiving, SoundCached, SoundGiving}
 use Rattle.gh_class.specs.declared.class.TheConstants.{SPAN_CLASSES}
 use Rattle.gh_wbuf.specs.BufferGiving as buffer
-use Rattle.gh_wbuf.specs.Sound.{SoundBufferGiving}
-use Rattle.gh_poll.specs.declared.give.GiveStage.TheVariants as give_stage
-use Rattle.gh_poll.specs.declared.leave.LeaveStage.{LeaveStage}
-use Rattle.gh_poll.specs.declared.leave.LeaveStage.TheVariants as leave_stage
-use Rattle.gh_poll.specs.Cached.{SoundCached}
 use Rattle.gh_poll.specs.Give as give
-use Rattle.gh_poll.specs.Give.{first_cached, Giving}
 use Rattle.gh_poll.specs.GiveSound as gives
-use Rattle.gh_poll.specs.GiveSound.{FitsCache, SoundGiving}
 use Rattle.gh_poll.specs.Leave as leave
 use Rattle.gh_poll.specs.LeaveSound as leaves
 use Rattle.gh_poll.proofs.Giving.{none_fits}
-use Rattle.gh_poll.proofs.Vocabulary.{CachedSpan, GiveStage, Held, Layout}
 
 -- ---- giving back
 
@@ -64,19 +52,19 @@ module _ (l : Layout) (k : Routines l) where
   give_at g p s h = record { seat = s.seat; generation = s.generation; room = s.room; cache = s.cache; held = s.held; stage = h }
 
   given_sound : (g : Giving) (b : buffer.BufferGiving) (out : Option (Unit {0})) → SoundGiving l g → SoundBufferGiving l b → buffer.given b ≡ out → SoundGiving l (give.after_buffer g b out)
-  given_sound g b None s h e = give_at g (give_stage.GiveBuffer b) s (record { sound = h; busy = ap is_none e })
+  given_sound g b None s h e = give_at g (GiveStage.GiveBuffer b) s (record { sound = h; busy = ap is_none e })
   given_sound g b (Some x) s h e = record { seat = s.seat; generation = s.generation; room = s.room; cache = s.cache; held = tt; stage = tt }
 
-  lock_sound : (g : Giving) (free : Bool) → SoundGiving l g → SoundGiving l (give.at_stage g (cond free (give.stage_from g.cache 0) give_stage.Lock))
+  lock_sound : (g : Giving) (free : Bool) → SoundGiving l g → SoundGiving l (give.at_stage g (cond free (give.stage_from g.cache 0) GiveStage.Lock))
   lock_sound g true s = give_at g (give.stage_from g.cache 0) s (first_sound l g.cache s.room s.cache 0 (drop 0 g.cache) refl)
-  lock_sound g false s = give_at g give_stage.Lock s tt
+  lock_sound g false s = give_at g GiveStage.Lock s tt
 
   gives_at : (g : Giving) (p : GiveStage) (found : ℕ) → found < 2 ^ 64 → SoundGiving l g → gives.SoundStage l p → SoundGiving l (give.goes_at g p found)
-  gives_at g give_stage.Lock found few s h = lock_sound g (eqb found 0) s
-  gives_at g (give_stage.GiveSpan class c) found few s h = give_at g (give.stage_from g.cache (class + 1)) s (first_sound l g.cache s.room s.cache (class + 1) (drop (class + 1) g.cache) refl)
-  gives_at g give_stage.Unlock found few s h = record { seat = s.seat; generation = s.generation; room = refl; cache = none_fits l; held = s.held; stage = buffer_opens l g.held s.held }
-  gives_at g (give_stage.GiveBuffer b) found few s h = given_sound g (buffer.goes b found) (buffer.gives b found) s (k.buffers.keeps b found few h.sound h.busy) refl
-  gives_at g give_stage.Ended found few s h = give_at g give_stage.Ended s tt
+  gives_at g GiveStage.Lock found few s h = lock_sound g (eqb found 0) s
+  gives_at g (GiveStage.GiveSpan class c) found few s h = give_at g (give.stage_from g.cache (class + 1)) s (first_sound l g.cache s.room s.cache (class + 1) (drop (class + 1) g.cache) refl)
+  gives_at g GiveStage.Unlock found few s h = record { seat = s.seat; generation = s.generation; room = refl; cache = none_fits l; held = s.held; stage = buffer_opens l g.held s.held }
+  gives_at g (GiveStage.GiveBuffer b) found few s h = given_sound g (buffer.goes b found) (buffer.gives b found) s (k.buffers.keeps b found few h.sound h.busy) refl
+  gives_at g GiveStage.Ended found few s h = give_at g GiveStage.Ended s tt
 
   span_within : (class : ℕ) (c : CachedSpan) → gives.FitsCachedSpan l class c → c.head < l.pages
   span_within class c h = let some = k.some_page (class / 2) (let among = h.among in omega arith) in let inside = h.span.0 in omega arith
@@ -91,14 +79,14 @@ module _ (l : Layout) (k : Routines l) where
 
   -- ---- leaving
 
-  leave_sound : (w : leave.Leaving) (g : Giving) (busy : Bool) → leaves.SoundLeaving l w → SoundGiving l g → give.is_busy g.stage ≡ busy → leaves.SoundLeaving l (leave.at_stage w (cond busy (leave_stage.Giving g) leave_stage.Leave))
+  leave_sound : (w : leave.Leaving) (g : Giving) (busy : Bool) → leaves.SoundLeaving l w → SoundGiving l g → give.is_busy g.stage ≡ busy → leaves.SoundLeaving l (leave.at_stage w (cond busy (LeaveStage.Giving g) LeaveStage.Leave))
   leave_sound w g true s h e = record { seat = s.seat; stage = record { sound = h; busy = e } }
   leave_sound w g false s h e = record { seat = s.seat; stage = tt }
 
   leaves_at : (w : leave.Leaving) (p : LeaveStage) (found : ℕ) → found < 2 ^ 64 → leaves.SoundLeaving l w → leaves.SoundStage l p → leaves.SoundLeaving l (leave.goes_at w p found)
-  leaves_at w (leave_stage.Giving g) found few s h = leave_sound w (give.goes g found) (give.is_busy (give.goes g found).stage) s (giving_is_a_routine.keeps g found few h.sound h.busy) refl
-  leaves_at w leave_stage.Leave found few s h = record { seat = s.seat; stage = tt }
-  leaves_at w leave_stage.Left found few s h = record { seat = s.seat; stage = tt }
+  leaves_at w (LeaveStage.Giving g) found few s h = leave_sound w (give.goes g found) (give.is_busy (give.goes g found).stage) s (giving_is_a_routine.keeps g found few h.sound h.busy) refl
+  leaves_at w LeaveStage.Leave found few s h = record { seat = s.seat; stage = tt }
+  leaves_at w LeaveStage.Left found few s h = record { seat = s.seat; stage = tt }
 
   pub leaving_is_a_routine : IsRoutine l (leave.listing l)
   leaving_is_a_routine = record {

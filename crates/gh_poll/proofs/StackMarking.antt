@@ -1,16 +1,13 @@
 -- The scan of a stack goes on until its step.
 use Rattle.std.proofs.Common.{◌≡◌, ℕ, ◌+◌, true, List, [], ◌∷◌, Some, None, refl, arith}
-use Rattle.gh_base.specs.declared.value.Value.{Value}
-use Rattle.gh_base.specs.declared.value.Value.TheVariants as value
-use Rattle.gh_stack.specs.declared.scan_stack.StackStage.{StackStage}
-use Rattle.gh_stack.specs.Listing.{after_shade, first_reference, is_busy, is_waiting, opening, StackScan, told_shaded, wish_of}
-use Rattle.gh_poll.specs.MarkStack.{goes_on}
+use Rattle.gh_poll.proofs.Vocabulary.{after_shade, first_reference, goes_on, is_waiting, opening, StackScan, StackStage, told_shaded, Value, wish_of}
+use Rattle.gh_stack.specs.Listing.{is_busy}
 
 pub first_going : (i : ℕ) (values : List Value) → goes_on (first_reference i values) ≡ true
 first_going i [] = refl
-first_going i (value.Ref r ∷ values) = refl
-first_going i (value.Nil ∷ values) = first_going (i + 1) values
-first_going i (value.Int n ∷ values) = first_going (i + 1) values
+first_going i (Value.Ref r ∷ values) = refl
+first_going i (Value.Nil ∷ values) = first_going (i + 1) values
+first_going i (Value.Int n ∷ values) = first_going (i + 1) values
 
 pub begins_going : (goroutine cycle : ℕ) (registers : List Value) → goes_on (opening goroutine cycle registers).stage ≡ true
 begins_going goroutine cycle registers = grind (arith, first_going)

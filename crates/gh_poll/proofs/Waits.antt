@@ -1,8 +1,8 @@
 -- A wait that goes on asks for a step, and so does the poll that it runs.
 use Rattle.std.proofs.Common.{◌≡◌, ℕ, Option, None, arith}
-use Rattle.gh_base.specs.declared.layout.Layout.{Layout}
+use Rattle.gh_poll.proofs.Vocabulary.{after_poll, given, gives, Layout, Waiting}
 use Rattle.gh_poll.specs.Poll as poll
-use Rattle.gh_poll.specs.Wait.{after_poll, given, gives, goes, Waiting}
+use Rattle.gh_poll.specs.Wait.{goes}
 use Rattle.gh_poll.specs.WaitSound.{SoundWaiting}
 
 -- a step of its poll does not end it

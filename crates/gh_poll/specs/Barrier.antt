@@ -1,23 +1,19 @@
 -- A store of a pointer while marking is on: the write behind the barrier that a processor runs with the buffer that it holds, and that buffer behind each step.
 use Rattle.std.specs.Prelude.{◌≡◌, ℕ, Bool, true, false, ◌==◌, if◌then◌else◌, Option, Some, None}
-use Rattle.gh_base.specs.declared.held.Held.{Held}
-use Rattle.gh_base.specs.declared.layout.Layout.{Layout}
-use Rattle.gh_base.specs.declared.value.Value.{Value}
-use Rattle.gh_base.specs.declared.value.Value.TheVariants as value
+use Rattle.gh_poll.specs.Vocabulary.{Held, Layout, Local, Value}
 use Rattle.gh_barrier.specs.declared.pointer_cell.PointerCell.{PointerCell}
 use Rattle.gh_barrier.specs.Listing.{Writing}
 use Rattle.gh_barrier.specs.Listing as write
 use Rattle.gh_barrier.specs.Sound.{SoundWriting}
-use Rattle.gh_poll.specs.declared.poll.Local.{Local}
 use Rattle.gh_poll.specs.Registers.{is_number_value}
 use Rattle.gh_poll.specs.Local.{marking_at}
 use Rattle.gh_poll.specs.Poll.{has_two, Polling}
 
 -- what a value names: nil and numbers name nothing
 abbrev pub pointer_of : Value → Option ℕ
-pointer_of value.Nil = None
-pointer_of (value.Int n) = None
-pointer_of (value.Ref r) = if r == 0 then None else Some r
+pointer_of Value.Nil = None
+pointer_of (Value.Int n) = None
+pointer_of (Value.Ref r) = if r == 0 then None else Some r
 
 -- the value is written to the cell, with the buffer that is held
 abbrev pub written : Local → PointerCell → Value → Writing

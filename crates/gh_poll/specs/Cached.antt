@@ -1,7 +1,6 @@
 -- What is known of a cached span.
 use Rattle.std.specs.Prelude.{ℕ, ◌+◌, ◌≤◌, Option, Some, None}
-use Rattle.gh_class.specs.Classes.{pages_of, slots_of}
-use Rattle.gh_alloc.specs.declared.sought.CachedSpan.{CachedSpan}
+use Rattle.gh_poll.specs.Vocabulary.{CachedSpan, pages_of, slots_of}
 
 -- the span lies in the arena, and the cursor in the span
 abbrev pub SoundCached : (pages class : ℕ) → Option CachedSpan → Type 0

@@ -1,11 +1,7 @@
 -- Which stack is due: one of the processor's, whose goroutine has not ended, and which was not scanned in the cycle.
-use Rattle.std.proofs.Common.{◌≡◌, ◌≢◌, ℕ, zero, suc, ◌+◌, ◌%◌, ◌<◌, Bool, true, false, cond, eqb, List, [], ◌∷◌, drop, Some, None, refl, sym, ap, subst, ◌∙◌, arith}
-use Rattle.std.specs.Prelude.{slice_index}
+use Rattle.std.proofs.Common.{◌≡◌, ◌≢◌, ℕ, zero, suc, ◌+◌, ◌%◌, ◌<◌, Bool, true, false, cond, eqb, List, [], ◌∷◌, drop, Some, None, refl, sym, ap, subst, ◌∙◌, arith, slice_index}
 use Rattle.std.proofs.lemmas.List.{drop-drop}
-use Rattle.gh_base.specs.declared.layout.Layout.{Layout}
-use Rattle.gh_base.specs.declared.pack.TheConstants.{END}
-use Rattle.gh_poll.specs.declared.poll.Local.{Local}
-use Rattle.gh_poll.specs.declared.poll.PollStage.TheVariants.{Ended}
+use Rattle.gh_poll.specs.Vocabulary.{END, Ended, Layout, Local}
 use Rattle.gh_poll.specs.Poll.{due, first_due, is_due, Polling}
 
 pub record IsUnscanned (l : Layout) (seat : ℕ) (local : Local) (g : ℕ) : Type 0 where

@@ -1,24 +1,12 @@
 -- A processor gives back what it holds: what is asked for at each stage, where that leads, and what it has given there.
 use Rattle.std.specs.Prelude.{ℕ, ◌+◌, ◌/◌, ◌%◌, Bool, true, ◌==◌, if◌then◌else◌, List, [], ◌∷◌, drop, replicate, Option, Some, None, is_none}
-use Rattle.gh_base.specs.declared.cell.Cell.TheVariants as cell
-use Rattle.gh_base.specs.declared.cell.Ask.{Ask}
-use Rattle.gh_base.specs.declared.cell.Ask.TheVariants.{Load, Store, Swap}
-use Rattle.gh_base.specs.declared.held.Held.{Held}
-use Rattle.gh_base.specs.declared.layout.Layout.{Layout}
-use Rattle.gh_base.specs.Footprints.{Footprint}
+use Rattle.gh_poll.specs.Vocabulary.{Ask, CachedSpan, Cell, Footprint, Give, GiveBuffer, GiveSpan, GiveStage, head_word, Held, Layout, Listing, Load, Lock, SPAN_CLASSES, Store, Swap, Unlock}
 use Rattle.gh_base.specs.Footprints as row
-use Rattle.gh_base.specs.Machines.{Listing, steps_of}
-use Rattle.gh_base.specs.Packing.{head_word}
-use Rattle.gh_base.specs.Routines as routine
 use Rattle.gh_class.specs.declared.class.SpanClass.{SpanClass}
-use Rattle.gh_class.specs.declared.class.TheConstants.{SPAN_CLASSES}
-use Rattle.gh_alloc.specs.declared.sought.CachedSpan.{CachedSpan}
 use Rattle.gh_alloc.specs.Find.{given_head}
 use Rattle.gh_wbuf.specs.BufferGiving as buffer
 use Rattle.gh_wbuf.specs.Trying as try
-use Rattle.gh_poll.specs.declared.give.Give.{Give}
-use Rattle.gh_poll.specs.declared.give.GiveStage.{GiveStage}
-use Rattle.gh_poll.specs.declared.give.GiveStage.TheVariants.{Lock, GiveSpan, Unlock, GiveBuffer, Ended}
+use Rattle.gh_poll.specs.declared.give.GiveStage.TheVariants.{Ended}
 use Rattle.gh_poll.specs.GiveSound.{SoundGiving}
 
 -- a giving back: whose it is, the sweep generation, the spans that are cached, the buffer that is held, and its stage
@@ -34,7 +22,7 @@ span_class number = record { class = number / 2; noscan = number % 2 == 1 }
 
 -- a span of this class is given back: nobody owns it, and it is swept
 abbrev pub head_store : (generation class : ℕ) → CachedSpan → Ask
-head_store generation class s = Store (cell.Page s.head) (head_word (given_head generation (span_class class)))
+head_store generation class s = Store (Cell.Page s.head) (head_word (given_head generation (span_class class)))
 
 -- the first of these spans, numbered from this class on, that is cached; where none is, the lock is freed
 abbrev pub first_cached : (class : ℕ) → List (Option CachedSpan) → GiveStage
@@ -70,11 +58,11 @@ after_buffer g b (Some x) = record g { held = None; stage = Ended }
 
 module _ (g : Giving) where
   abbrev pub asks_at : GiveStage → Ask
-  asks_at Lock = Swap cell.Lock 0 (g.seat + 1)
+  asks_at Lock = Swap Cell.Lock 0 (g.seat + 1)
   asks_at (GiveSpan class s) = head_store g.generation class s
-  asks_at Unlock = Store cell.Lock 0
+  asks_at Unlock = Store Cell.Lock 0
   asks_at (GiveBuffer b) = buffer.asks b
-  asks_at Ended = Load cell.Touch
+  asks_at Ended = Load Cell.Touch
 
   abbrev pub goes_at : GiveStage → ℕ → Giving
   goes_at Lock found = at_stage g (if found == 0 then stage_from g.cache 0 else Lock)
@@ -106,6 +94,3 @@ writes r = try.writes r
 
 abbrev pub listing : Layout → Listing Giving (Unit {0})
 listing l = record { asks = asks; goes = goes; given = λ g. given g.stage; sound = SoundGiving l; writes = writes }
-
-abbrev pub transitions : Layout → routine.Listing Giving (Unit {0})
-transitions l = steps_of l (listing l)

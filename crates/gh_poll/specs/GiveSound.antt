@@ -1,14 +1,7 @@
 -- What the giving back knows of its own numbers, whatever it is told.
 use Rattle.std.specs.Prelude.{◌≡◌, ℕ, ◌/◌, ◌^◌, ◌<◌, List, length, slice_index_or, Option, Some, None}
-use Rattle.gh_base.specs.declared.layout.Layout.{Layout}
-use Rattle.gh_base.specs.Holding.{IsHeld}
-use Rattle.gh_base.specs.Machines.{Runs}
-use Rattle.gh_class.specs.declared.class.TheConstants.{SPAN_CLASSES}
-use Rattle.gh_alloc.specs.declared.sought.CachedSpan.{CachedSpan}
+use Rattle.gh_poll.specs.Vocabulary.{CachedSpan, Give, GiveBuffer, GiveSpan, GiveStage, IsHeld, Layout, Runs, SPAN_CLASSES}
 use Rattle.gh_wbuf.specs.BufferGiving as buffer
-use Rattle.gh_poll.specs.declared.give.Give.{Give}
-use Rattle.gh_poll.specs.declared.give.GiveStage.{GiveStage}
-use Rattle.gh_poll.specs.declared.give.GiveStage.TheVariants.{GiveSpan, GiveBuffer}
 use Rattle.gh_poll.specs.Cached.{SoundCached}
 
 -- each cached span lies in the arena, and is one of its class

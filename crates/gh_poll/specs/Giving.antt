@@ -1,9 +1,8 @@
 -- The giving back begins so that nothing is left once it has ended.
 use Rattle.std.proofs.Common.{◌≡◌, ℕ, ◌+◌, List, [], ◌∷◌, length, replicate, Option, Some, None, refl, ap, arith}
-use Rattle.gh_class.specs.declared.class.TheConstants.{SPAN_CLASSES}
-use Rattle.gh_poll.specs.declared.give.GiveStage.TheVariants.{Unlock, GiveBuffer, Ended}
+use Rattle.gh_poll.specs.Vocabulary.{CachedSpan, GiveBuffer, GiveStage, Held, SPAN_CLASSES, Unlock}
+use Rattle.gh_poll.specs.declared.give.GiveStage.TheVariants.{Ended}
 use Rattle.gh_poll.specs.Give.{first_cached, Giving, giving_buffer, none_cached, opening}
-use Rattle.gh_poll.specs.MarkVocabulary.{CachedSpan, GiveStage, Held}
 
 abbrev no_span : Option CachedSpan
 no_span = None

@@ -1,23 +1,8 @@
 -- Where a processor among a collector stands in the handshake of a stop, while it polls, waits or leaves.
 use Rattle.std.specs.Prelude.{◌≡◌, ℕ, Bool, true, false, List, length, Option, None}
-use Rattle.gh_base.specs.declared.held.Held.{Held}
-use Rattle.gh_base.specs.declared.layout.Layout.{Layout}
-use Rattle.gh_alloc.specs.declared.sought.CachedSpan.{CachedSpan}
-use Rattle.gh_class.specs.declared.class.TheConstants.{SPAN_CLASSES}
-use Rattle.gh_phase.specs.declared.view.RunPhase.TheVariants.{Mark}
-use Rattle.gh_phase.specs.declared.view.View.{View}
-use Rattle.gh_phase.specs.Handshake.{Awake, Gives, Gone, KeepsHandshake, Leaves, Party, PlaceBegins, Acts, Stage}
+use Rattle.gh_poll.specs.Vocabulary.{Acts, Awake, CachedSpan, Gives, GiveStage, Gone, Held, KeepsHandshake, Layout, Leaves, LeaveStage, Local, Mark, Party, PlaceBegins, PollStage, SPAN_CLASSES, Stage, View, WaitStage}
 use Rattle.gh_phase.specs.Listing as resume
 use Rattle.gh_phase.specs.ResumePlaces as resumes
-use Rattle.gh_poll.specs.declared.give.GiveStage.{GiveStage}
-use Rattle.gh_poll.specs.declared.give.GiveStage.TheVariants as give_stage
-use Rattle.gh_poll.specs.declared.leave.LeaveStage.{LeaveStage}
-use Rattle.gh_poll.specs.declared.leave.LeaveStage.TheVariants as leave_stage
-use Rattle.gh_poll.specs.declared.poll.Local.{Local}
-use Rattle.gh_poll.specs.declared.poll.PollStage.{PollStage}
-use Rattle.gh_poll.specs.declared.poll.PollStage.TheVariants as poll_stage
-use Rattle.gh_poll.specs.declared.wait.WaitStage.{WaitStage}
-use Rattle.gh_poll.specs.declared.wait.WaitStage.TheVariants as wait_stage
 use Rattle.gh_poll.specs.Give.{Giving, none_cached}
 use Rattle.gh_poll.specs.Leave as leave
 use Rattle.gh_poll.specs.Poll as poll
@@ -29,8 +14,8 @@ IsPlace party stage seat local = (party ≡ record { seat = seat; view = local.v
 
 -- The giving back. Once it has ended nothing is left.
 abbrev pub GivesSo : Giving → GiveStage → Type 0
-GivesSo g (give_stage.GiveBuffer b) = g.cache ≡ none_cached
-GivesSo g give_stage.Ended = (g.cache ≡ none_cached) × (g.held ≡ None)
+GivesSo g (GiveStage.GiveBuffer b) = g.cache ≡ none_cached
+GivesSo g GiveStage.Ended = (g.cache ≡ none_cached) × (g.held ≡ None)
 GivesSo g _ = Unit {0}
 
 -- the cache has a place for each span class
@@ -47,20 +32,20 @@ pub record GoesOnWithNothing (seat : ℕ) (local : Local) (r : resume.Resuming) 
 -- A poll: while it scans a stack, or looks for a buffer with room, the processor is awake and knows that marking is on.
 module _ (p : poll.Polling) where
   abbrev pub polls_at : PollStage → Stage
-  polls_at (poll_stage.Giving g stops) = Gives stops
-  polls_at (poll_stage.Resuming r) = resumes.stage_of r
+  polls_at (PollStage.Giving g stops) = Gives stops
+  polls_at (PollStage.Resuming r) = resumes.stage_of r
   polls_at _ = Awake
 
   -- while it goes on after a stop, it knows what that knows
   abbrev pub poller_at : PollStage → Party
-  poller_at (poll_stage.Resuming r) = resumes.party_of r
+  poller_at (PollStage.Resuming r) = resumes.party_of r
   poller_at _ = record { seat = p.seat; view = p.local.view }
 
   abbrev pub PollsSoundAt : PollStage → Type 0
-  PollsSoundAt (poll_stage.Giving g stops) = GivesSo g g.stage
-  PollsSoundAt (poll_stage.Resuming r) = GoesOnWithNothing p.seat p.local r
-  PollsSoundAt (poll_stage.Marking g m) = p.local.view.phase ≡ Mark
-  PollsSoundAt (poll_stage.FindRoom r) = p.local.view.phase ≡ Mark
+  PollsSoundAt (PollStage.Giving g stops) = GivesSo g g.stage
+  PollsSoundAt (PollStage.Resuming r) = GoesOnWithNothing p.seat p.local r
+  PollsSoundAt (PollStage.Marking g m) = p.local.view.phase ≡ Mark
+  PollsSoundAt (PollStage.FindRoom r) = p.local.view.phase ≡ Mark
   PollsSoundAt _ = Unit {0}
 
   abbrev pub poll_stage_of : Stage
@@ -84,15 +69,15 @@ knower p = record { seat = p.seat; view = p.local.view }
 -- A wait: while it polls, it stands where the poll does.
 module _ (w : wait.Waiting) where
   abbrev pub waits_at : WaitStage → Stage
-  waits_at wait_stage.Polling = poll_stage_of w.poll
+  waits_at WaitStage.Polling = poll_stage_of w.poll
   waits_at _ = Awake
 
   abbrev pub waiter_at : WaitStage → Party
-  waiter_at wait_stage.Polling = poller_of w.poll
+  waiter_at WaitStage.Polling = poller_of w.poll
   waiter_at _ = knower w.poll
 
   abbrev pub WaitsSoundAt : WaitStage → Type 0
-  WaitsSoundAt wait_stage.Polling = PollsOn w.poll
+  WaitsSoundAt WaitStage.Polling = PollsOn w.poll
   WaitsSoundAt _ = Unit {0}
 
   abbrev pub wait_stage_of : Stage
@@ -106,9 +91,9 @@ module _ (w : wait.Waiting) where
 
 -- Leaving: what the processor knows of the phase stays.
 abbrev pub leaves_at : LeaveStage → Stage
-leaves_at (leave_stage.Giving g) = Awake
-leaves_at leave_stage.Leave = Leaves
-leaves_at leave_stage.Left = Gone
+leaves_at (LeaveStage.Giving g) = Awake
+leaves_at LeaveStage.Leave = Leaves
+leaves_at LeaveStage.Left = Gone
 
 abbrev pub leaver : View → leave.Leaving → Party
 leaver v w = record { seat = w.seat; view = v }

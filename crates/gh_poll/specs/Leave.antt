@@ -1,19 +1,9 @@
 -- A processor leaves: what is asked for at each stage, where that leads, and what it has given there.
 use Rattle.std.specs.Prelude.{ℕ, Bool, true, false, if◌then◌else◌, List, Option, Some, None, is_none}
-use Rattle.gh_base.specs.declared.cell.Cell.TheVariants as cell
-use Rattle.gh_base.specs.declared.cell.Ask.{Ask}
-use Rattle.gh_base.specs.declared.cell.Ask.TheVariants.{Load, Store}
-use Rattle.gh_base.specs.declared.held.Held.{Held}
-use Rattle.gh_base.specs.declared.layout.Layout.{Layout}
-use Rattle.gh_base.specs.declared.pack.TheConstants.{GONE}
-use Rattle.gh_base.specs.Footprints.{Footprint}
+use Rattle.gh_poll.specs.Vocabulary.{Ask, CachedSpan, Cell, Footprint, Giving, GONE, Held, Layout, Leave, LeaveStage, Left, Listing, Load, steps_of, Store}
 use Rattle.gh_base.specs.Footprints as row
-use Rattle.gh_base.specs.Machines.{Listing, steps_of}
 use Rattle.gh_base.specs.Routines as routine
-use Rattle.gh_alloc.specs.declared.sought.CachedSpan.{CachedSpan}
 use Rattle.gh_poll.specs.declared.leave.Leave as declared
-use Rattle.gh_poll.specs.declared.leave.LeaveStage.{LeaveStage}
-use Rattle.gh_poll.specs.declared.leave.LeaveStage.TheVariants.{Giving, Leave, Left}
 use Rattle.gh_poll.specs.Give as give
 use Rattle.gh_poll.specs.LeaveSound.{SoundLeaving}
 
@@ -33,8 +23,8 @@ opening seat generation cache held = record { seat = seat; stage = stage_of (giv
 module _ (w : Leaving) where
   abbrev pub asks_at : LeaveStage → Ask
   asks_at (Giving g) = give.asks g
-  asks_at Leave = Store (cell.Ack w.seat) GONE
-  asks_at Left = Load cell.Touch
+  asks_at Leave = Store (Cell.Ack w.seat) GONE
+  asks_at Left = Load Cell.Touch
 
   abbrev pub goes_at : LeaveStage → ℕ → Leaving
   goes_at (Giving g) found = at_stage w (stage_of (give.goes g found))

@@ -1,10 +1,7 @@
 -- What a processor that leaves knows of its own numbers, whatever it is told.
 use Rattle.std.specs.Prelude.{◌<◌}
-use Rattle.gh_base.specs.declared.layout.Layout.{Layout}
-use Rattle.gh_base.specs.Machines.{Runs}
+use Rattle.gh_poll.specs.Vocabulary.{Giving, Layout, LeaveStage, Runs}
 use Rattle.gh_poll.specs.declared.leave.Leave.{Leave}
-use Rattle.gh_poll.specs.declared.leave.LeaveStage.{LeaveStage}
-use Rattle.gh_poll.specs.declared.leave.LeaveStage.TheVariants.{Giving}
 use Rattle.gh_poll.specs.Give as give
 
 abbrev pub SoundStage : Layout → LeaveStage → Type 0

@@ -22,3 +22,4 @@ pub mod Room
 pub mod Stays
 pub mod Wait
 pub mod WaitSound
+pub mod Vocabulary

@@ -1,20 +1,9 @@
 -- What a processor alone knows: its registers, the spans that it has cached, and the scans of its stacks. It is kept with the poll, which reads and changes it too.
 use Rattle.std.specs.Prelude.{ℕ, Bool, true, false, not, ◌&&◌, List, [], Option, Some, None, is_some, replicate, slice_index_or, slice_set}
-use Rattle.gh_base.specs.declared.limits.TheConstants.{MOST_GOROUTINES, REGISTERS}
-use Rattle.gh_base.specs.declared.pack.TheConstants.{END}
-use Rattle.gh_base.specs.declared.value.Value.{Value}
-use Rattle.gh_base.specs.declared.value.Value.TheVariants as value
-use Rattle.gh_base.specs.Packing.{phase_of}
-use Rattle.gh_class.specs.Classes.{span_index}
-use Rattle.gh_alloc.specs.declared.sought.CachedSpan.{CachedSpan}
+use Rattle.gh_poll.specs.Vocabulary.{Assisting, CachedSpan, END, first_view, Local, MOST_GOROUTINES, phase_of, REGISTERS, run_phase, RunPhase, span_index, Value}
 use Rattle.gh_alloc.specs.declared.sought.Sought.{Sought}
 use Rattle.gh_alloc.specs.declared.sought.Sought.TheVariants.{Small, Large}
 use Rattle.gh_assist.specs.Listing as assist
-use Rattle.gh_assist.specs.Listing.{Assisting}
-use Rattle.gh_phase.specs.declared.view.RunPhase.{RunPhase}
-use Rattle.gh_phase.specs.declared.view.RunPhase.TheVariants as run
-use Rattle.gh_phase.specs.Views.{first_view, run_phase}
-use Rattle.gh_poll.specs.declared.poll.Local.{Local}
 use Rattle.gh_poll.specs.Give.{none_cached}
 use Rattle.gh_poll.specs.Leave as leave
 use Rattle.gh_poll.specs.Poll.{Polling, is_busy}
@@ -29,12 +18,12 @@ first_local = record {
   owed = 0;
   spent = 0;
   scanned = replicate MOST_GOROUTINES 0;
-  stacks = replicate MOST_GOROUTINES (replicate REGISTERS value.Nil);
+  stacks = replicate MOST_GOROUTINES (replicate REGISTERS Value.Nil);
 }
 
 -- Marking is on, as it knows: it finds out between two statements alone, so that this stays until a statement ends.
 abbrev pub is_mark : RunPhase → Bool
-is_mark run.Mark = true
+is_mark RunPhase.Mark = true
 is_mark _ = false
 
 abbrev pub marking_at : Polling → Bool
@@ -47,7 +36,7 @@ passes p found = not (is_busy p.stage) && is_some (run_phase (phase_of found).ph
 -- Registers.
 
 abbrev pub register_in_stacks : List (List Value) → (g d : ℕ) → Value
-register_in_stacks stacks g d = slice_index_or (slice_index_or stacks g []) d value.Nil
+register_in_stacks stacks g d = slice_index_or (slice_index_or stacks g []) d Value.Nil
 
 -- what register d of goroutine g holds
 abbrev pub register_at : Polling → (g d : ℕ) → Value

@@ -1,27 +1,17 @@
 -- What is known of a processor that polls, waits or leaves while marking is on, at each stage, and what each step of its own is then. It may hold a buffer between two polls. While it scans a stack it has the object besides that it shades; and at a stop, with its buffer given back, it has nothing.
-use Rattle.std.proofs.Common.{◌∙◌, sym}
-use Rattle.std.specs.Prelude.{◌≡◌, ◌≢◌, ℕ, ◌%◌, ◌<◌, ◌≤◌, Bool, true, false, List, [], length, slice_index, slice_index_or, Option, Some, None}
-use Rattle.gh_base.specs.declared.cell.Ask.TheVariants as ask
-use Rattle.gh_base.specs.declared.cell.Cell.TheVariants as cell
-use Rattle.gh_base.specs.declared.pack.TheConstants.{END}
+use Rattle.std.proofs.Common.{◌∙◌, sym, ◌≡◌, ◌≢◌, ℕ, ◌%◌, ◌<◌, ◌≤◌, Bool, true, false, List, [], length, slice_index, slice_index_or, Option, Some, None}
+use Rattle.gh_poll.specs.Vocabulary.{Ask, CachedSpan, Cell, END, GiveStage, Held, LeaveStage, Local, Mark, MarkStackStage, PollStage, StackStage, Value, View, WaitStage}
 use Rattle.gh_base.specs.Rows.{mark_words}
-use Rattle.gh_phase.specs.declared.view.RunPhase.TheVariants.{Mark}
 use Rattle.gh_phase.specs.Listing as resume
 use Rattle.gh_shade.specs.Facts as shade_facts
 use Rattle.gh_shade.specs.Listing as shade
-use Rattle.gh_stack.specs.declared.scan_stack.StackStage.TheVariants as stack_stage
 use Rattle.gh_stack.specs.Facts as stack_facts
 use Rattle.gh_stack.specs.Listing as stack
 use Rattle.gh_wbuf.specs.Facts as buffer_facts
-use Rattle.gh_poll.specs.declared.give.GiveStage.TheVariants as give_stage
-use Rattle.gh_poll.specs.declared.leave.LeaveStage.TheVariants as leave_stage
-use Rattle.gh_poll.specs.declared.mark_stack.MarkStackStage.TheVariants as mark_stage
-use Rattle.gh_poll.specs.declared.poll.PollStage.TheVariants as poll_stage
-use Rattle.gh_poll.specs.declared.wait.WaitStage.TheVariants as wait_stage
 use Rattle.gh_poll.specs.Give as give
 use Rattle.gh_poll.specs.Leave as leave
 use Rattle.gh_poll.specs.MarkStack as mark
-use Rattle.gh_poll.specs.MarkVocabulary.{CachedSpan, Cycle, GiveStage, Good, Hands, Held, InHand, IsMarked, IsOf, Keeps, KnowsObjects, LeaveStage, Local, MarkStackStage, Others, PollStage, Shared, Steps, Value, View, WaitStage, cell_of, nothing}
+use Rattle.gh_poll.specs.MarkVocabulary.{Cycle, Good, Hands, InHand, IsMarked, IsOf, Keeps, KnowsObjects, Others, Shared, Steps, cell_of, nothing}
 use Rattle.gh_poll.specs.Poll as poll
 use Rattle.gh_poll.specs.Wait as wait
 
@@ -32,8 +22,8 @@ holding_only held = buffer_facts.holding nothing held
 -- What a processor alone knows of its stacks is what the shared state says of them. The goroutines that it takes for its own are those of its seat; the registers of each that goes on name what it has in them, and the cycle in which it noted a stack as scanned is that in the stack's word.
 pub record KnowsStacks (z : Cycle) (a : ℕ) (s : Shared) (stacks : List (List Value)) (notes : List ℕ) : Type 0 where
   pub own : (g : ℕ) → g < z.arena.layout.goroutines → g % z.arena.layout.procs ≡ a → IsOf z.arena a g
-  pub registers : (g : ℕ) → IsOf z.arena a g → s.words (cell.Scanned g) ≢ END → stack_facts.AreRegisters (s.registers g) (slice_index_or stacks g [])
-  pub noted : (g : ℕ) → IsOf z.arena a g → slice_index notes g ≡ s.words (cell.Scanned g)
+  pub registers : (g : ℕ) → IsOf z.arena a g → s.words (Cell.Scanned g) ≢ END → stack_facts.AreRegisters (s.registers g) (slice_index_or stacks g [])
+  pub noted : (g : ℕ) → IsOf z.arena a g → slice_index notes g ≡ s.words (Cell.Scanned g)
   -- there is a note for each
   pub places : z.arena.layout.goroutines ≤ length notes
 
@@ -52,7 +42,7 @@ KnowsNumber z v = v.phase ≡ Mark → v.begun ≡ z.number
 
 -- The cycle is the last that has begun. Whoever runs the processors knows that while marking is on.
 abbrev pub KnowsCycle : Cycle → Shared → Type 0
-KnowsCycle z s = s.words cell.Begun ≡ z.number
+KnowsCycle z s = s.words Cell.Begun ≡ z.number
 
 -- between two polls
 pub record IsBetween (z : Cycle) (a : ℕ) (s : Shared) (local : Local) : Type 0 where
@@ -62,8 +52,8 @@ pub record IsBetween (z : Cycle) (a : ℕ) (s : Shared) (local : Local) : Type 0
 
 -- The giving back.
 abbrev pub GiveStageFacts : Cycle → (a : ℕ) → Shared → Option Held → GiveStage → Type 0
-GiveStageFacts z a s held (give_stage.GiveBuffer b) = buffer_facts.GiveFacts z a s nothing b
-GiveStageFacts z a s held give_stage.Ended = Hands a s nothing × (held ≡ None)
+GiveStageFacts z a s held (GiveStage.GiveBuffer b) = buffer_facts.GiveFacts z a s nothing b
+GiveStageFacts z a s held GiveStage.Ended = Hands a s nothing × (held ≡ None)
 GiveStageFacts z a s held _ = Hands a s (holding_only held)
 
 abbrev pub GiveFacts : Cycle → (a : ℕ) → Shared → give.Giving → Type 0
@@ -83,10 +73,10 @@ abbrev pub pending : (reference : ℕ) → InHand
 pending reference = record nothing { pending = Some (shade.object_of reference) }
 
 abbrev pub ScanStageFacts : Cycle → (a : ℕ) → Shared → Option Held → stack.StackScan → MarkStackStage → Type 0
-ScanStageFacts z a s held m (mark_stage.Shading sh) = ShadesWish z a s m sh.reference × shade_facts.Facts z a s nothing sh
-ScanStageFacts z a s held m (mark_stage.FindRoom sh r) = ShadesWish z a s m sh.reference × LooksForRoom s sh.reference × buffer_facts.RoomFacts z a s (pending sh.reference) r
-ScanStageFacts z a s held m mark_stage.Store = stack_facts.Facts z a s m × (m.stage ≡ stack_stage.Store) × Hands a s (holding_only held)
-ScanStageFacts z a s held m mark_stage.Ended = ⊥
+ScanStageFacts z a s held m (MarkStackStage.Shading sh) = ShadesWish z a s m sh.reference × shade_facts.Facts z a s nothing sh
+ScanStageFacts z a s held m (MarkStackStage.FindRoom sh r) = ShadesWish z a s m sh.reference × LooksForRoom s sh.reference × buffer_facts.RoomFacts z a s (pending sh.reference) r
+ScanStageFacts z a s held m MarkStackStage.Store = stack_facts.Facts z a s m × (m.stage ≡ StackStage.Store) × Hands a s (holding_only held)
+ScanStageFacts z a s held m MarkStackStage.Ended = ⊥
 
 -- it is the scan of this goroutine's stack
 pub record ScanFacts (z : Cycle) (a : ℕ) (s : Shared) (g : ℕ) (m : mark.StackMarking) : Type 0 where
@@ -100,12 +90,12 @@ PollEndsWithRoom waits local = waits ≡ false → local.view.phase ≡ Mark →
 
 -- A poll.
 abbrev pub PollStageFacts : Cycle → (a : ℕ) → Shared → (waits : Bool) → Local → PollStage → Type 0
-PollStageFacts z a s waits local poll_stage.LoadPhase = KnowsNumber z local.view × Hands a s (holding_only local.held)
-PollStageFacts z a s waits local (poll_stage.Giving g stops) = GiveFacts z a s g
-PollStageFacts z a s waits local (poll_stage.Resuming r) = Hands a s nothing × (local.held ≡ None) × (resume.is_busy r ≡ true)
-PollStageFacts z a s waits local (poll_stage.Marking g m) = (local.view.begun ≡ z.number) × ScanFacts z a s g m
-PollStageFacts z a s waits local (poll_stage.FindRoom r) = KnowsNumber z local.view × buffer_facts.RoomFacts z a s nothing r
-PollStageFacts z a s waits local poll_stage.Ended = KnowsNumber z local.view × PollEndsWithRoom waits local × Hands a s (holding_only local.held)
+PollStageFacts z a s waits local PollStage.LoadPhase = KnowsNumber z local.view × Hands a s (holding_only local.held)
+PollStageFacts z a s waits local (PollStage.Giving g stops) = GiveFacts z a s g
+PollStageFacts z a s waits local (PollStage.Resuming r) = Hands a s nothing × (local.held ≡ None) × (resume.is_busy r ≡ true)
+PollStageFacts z a s waits local (PollStage.Marking g m) = (local.view.begun ≡ z.number) × ScanFacts z a s g m
+PollStageFacts z a s waits local (PollStage.FindRoom r) = KnowsNumber z local.view × buffer_facts.RoomFacts z a s nothing r
+PollStageFacts z a s waits local PollStage.Ended = KnowsNumber z local.view × PollEndsWithRoom waits local × Hands a s (holding_only local.held)
 
 pub record PollFacts (z : Cycle) (a : ℕ) (s : Shared) (p : poll.Polling) : Type 0 where
   pub seat_is : p.seat ≡ a
@@ -119,7 +109,7 @@ pub record RestFacts (z : Cycle) (a : ℕ) (s : Shared) (p : poll.Polling) : Typ
 
 -- A wait: while it polls it knows what the poll does.
 abbrev pub WaitStageFacts : Cycle → (a : ℕ) → Shared → poll.Polling → WaitStage → Type 0
-WaitStageFacts z a s p wait_stage.Polling = PollFacts z a s p
+WaitStageFacts z a s p WaitStage.Polling = PollFacts z a s p
 WaitStageFacts z a s p _ = RestFacts z a s p
 
 abbrev pub WaitFacts : Cycle → (a : ℕ) → Shared → wait.Waiting → Type 0
@@ -127,9 +117,9 @@ WaitFacts z a s w = WaitStageFacts z a s w.poll w.wait.stage
 
 -- Leaving: once all is given back it has nothing.
 abbrev pub LeaveFacts : Cycle → (a : ℕ) → Shared → LeaveStage → Type 0
-LeaveFacts z a s (leave_stage.Giving g) = GiveFacts z a s g
-LeaveFacts z a s leave_stage.Leave = Hands a s nothing
-LeaveFacts z a s leave_stage.Left = Hands a s nothing
+LeaveFacts z a s (LeaveStage.Giving g) = GiveFacts z a s g
+LeaveFacts z a s LeaveStage.Leave = Hands a s nothing
+LeaveFacts z a s LeaveStage.Left = Hands a s nothing
 
 pub record PollsByMoves : Type 0 where
   pub begins : (z : Cycle) (a : ℕ) (s : Shared) (p : poll.Polling) (waits : Bool) → RestFacts z a s p → PollFacts z a s (poll.begins p waits)
@@ -138,7 +128,7 @@ pub record PollsByMoves : Type 0 where
   pub lasts : (z : Cycle) (a : ℕ) (s t : Shared) (p : poll.Polling) → Others z a s t → PollFacts z a s p → PollFacts z a t p
   pub ends : (z : Cycle) (a : ℕ) (s : Shared) (p : poll.Polling) → poll.is_busy p.stage ≡ false → PollFacts z a s p → RestFacts z a s p × PollEndsWithRoom p.waits p.local
   -- where it acknowledges a stop it has nothing in hand
-  pub stops : (z : Cycle) (a i number : ℕ) (s : Shared) (p : poll.Polling) → poll.asks p ≡ ask.Store (cell.Ack i) number → PollFacts z a s p → Hands a s nothing
+  pub stops : (z : Cycle) (a i number : ℕ) (s : Shared) (p : poll.Polling) → poll.asks p ≡ Ask.Store (Cell.Ack i) number → PollFacts z a s p → Hands a s nothing
 
 pub record WaitsByMoves : Type 0 where
   pub begins : (z : Cycle) (a : ℕ) (s : Shared) (p : poll.Polling) → RestFacts z a s p → WaitFacts z a s (wait.opening p)
@@ -146,7 +136,7 @@ pub record WaitsByMoves : Type 0 where
       Steps z a s (wait.asks w) (λ t. WaitFacts z a t (wait.goes z.arena.layout w (s.words (cell_of (wait.asks w)))))
   pub lasts : (z : Cycle) (a : ℕ) (s t : Shared) (w : wait.Waiting) → Others z a s t → WaitFacts z a s w → WaitFacts z a t w
   pub ends : (z : Cycle) (a : ℕ) (s : Shared) (w : wait.Waiting) → wait.is_busy w.wait.stage ≡ false → WaitFacts z a s w → RestFacts z a s w.poll
-  pub stops : (z : Cycle) (a i number : ℕ) (s : Shared) (w : wait.Waiting) → wait.asks w ≡ ask.Store (cell.Ack i) number → WaitFacts z a s w → Hands a s nothing
+  pub stops : (z : Cycle) (a i number : ℕ) (s : Shared) (w : wait.Waiting) → wait.asks w ≡ Ask.Store (Cell.Ack i) number → WaitFacts z a s w → Hands a s nothing
 
 pub record LeavesByMoves : Type 0 where
   pub begins : (z : Cycle) (a seat generation : ℕ) (s : Shared) (cache : List (Option CachedSpan)) (held : Option Held) → Hands a s (holding_only held) →
@@ -156,4 +146,4 @@ pub record LeavesByMoves : Type 0 where
       Steps z a s (leave.asks w) (λ t. Keeps z a s t × LeaveFacts z a t (leave.goes w (s.words (cell_of (leave.asks w)))).stage)
   pub lasts : (z : Cycle) (a : ℕ) (s t : Shared) (w : leave.Leaving) → Others z a s t → LeaveFacts z a s w.stage → LeaveFacts z a t w.stage
   -- it says that it is gone with nothing in hand
-  pub stops : (z : Cycle) (a i number : ℕ) (s : Shared) (w : leave.Leaving) → leave.asks w ≡ ask.Store (cell.Ack i) number → LeaveFacts z a s w.stage → Hands a s nothing
+  pub stops : (z : Cycle) (a i number : ℕ) (s : Shared) (w : leave.Leaving) → leave.asks w ≡ Ask.Store (Cell.Ack i) number → LeaveFacts z a s w.stage → Hands a s nothing

@@ -1,25 +1,12 @@
 -- The scan of a stack with the shading: what is asked for at each stage, where that leads, and what it has given there.
 use Rattle.std.specs.Prelude.{ℕ, Bool, true, false, List, Option, Some, None, is_none}
-use Rattle.gh_base.specs.declared.cell.Cell.TheVariants as cell
-use Rattle.gh_base.specs.declared.cell.Ask.{Ask}
-use Rattle.gh_base.specs.declared.cell.Ask.TheVariants.{Load}
-use Rattle.gh_base.specs.declared.held.Held.{Held}
-use Rattle.gh_base.specs.declared.layout.Layout.{Layout}
-use Rattle.gh_base.specs.declared.value.Value.{Value}
-use Rattle.gh_base.specs.Footprints.{Footprint}
+use Rattle.gh_poll.specs.Vocabulary.{Ask, Cell, FindRoom, Footprint, Held, Layout, Listing, Load, MarkStack, MarkStackStage, Shaded, Shading, StackStage, Value}
 use Rattle.gh_base.specs.Footprints as row
-use Rattle.gh_base.specs.Machines.{Listing}
 use Rattle.gh_scan.specs.Listing.{reference_in}
-use Rattle.gh_shade.specs.declared.shade.Shaded.{Shaded}
-use Rattle.gh_shade.specs.declared.shade.Shaded.TheVariants as shaded
 use Rattle.gh_shade.specs.Listing as shade
-use Rattle.gh_stack.specs.declared.scan_stack.StackStage.{StackStage}
-use Rattle.gh_stack.specs.declared.scan_stack.StackStage.TheVariants as stack_stage
 use Rattle.gh_stack.specs.Listing as stack
 use Rattle.gh_wbuf.specs.RoomFinding as room
-use Rattle.gh_poll.specs.declared.mark_stack.MarkStack.{MarkStack}
-use Rattle.gh_poll.specs.declared.mark_stack.MarkStackStage.{MarkStackStage}
-use Rattle.gh_poll.specs.declared.mark_stack.MarkStackStage.TheVariants.{Shading, FindRoom, Store, Ended}
+use Rattle.gh_poll.specs.declared.mark_stack.MarkStackStage.TheVariants.{Store, Ended}
 use Rattle.gh_poll.specs.MarkStackSound.{SoundStackMarking}
 
 -- the scan of a stack, with what is held between two shadings
@@ -31,7 +18,7 @@ at_stage m stage = record m { stage = stage }
 
 -- the scan has a wish, or its step is next
 abbrev pub goes_on : StackStage → Bool
-goes_on stack_stage.Ended = false
+goes_on StackStage.Ended = false
 goes_on _ = true
 
 -- by what the scan wishes to be shaded
@@ -52,8 +39,8 @@ with_shaded l m held = record m { held = held; scan = stack.told_shaded m.scan; 
 
 abbrev pub after_shade : Layout → StackMarking → shade.Shading → Option Shaded → StackMarking
 after_shade l m sh None = at_stage m (Shading sh)
-after_shade l m sh (Some shaded.Done) = with_shaded l m sh.held
-after_shade l m sh (Some shaded.WantsRoom) = at_stage m (FindRoom sh (room.opening m.seat sh.held))
+after_shade l m sh (Some Shaded.Done) = with_shaded l m sh.held
+after_shade l m sh (Some Shaded.WantsRoom) = at_stage m (FindRoom sh (room.opening m.seat sh.held))
 
 abbrev pub after_room : StackMarking → shade.Shading → room.RoomFinding → Option Held → StackMarking
 after_room m sh r None = at_stage m (FindRoom sh r)
@@ -64,7 +51,7 @@ module _ (m : StackMarking) where
   asks_at (Shading sh) = shade.asks sh
   asks_at (FindRoom sh r) = room.asks r
   asks_at Store = stack.asks m.scan
-  asks_at Ended = Load cell.Touch
+  asks_at Ended = Load Cell.Touch
 
 abbrev pub goes_at : Layout → StackMarking → MarkStackStage → ℕ → StackMarking
 goes_at l m (Shading sh) found = after_shade l m (shade.goes sh found) (shade.gives sh found)

@@ -1,18 +1,14 @@
 -- What the scan of a stack with the shading knows of its own numbers and routines, whatever it is told.
 use Rattle.std.specs.Prelude.{◌≡◌, ◌<◌, true}
-use Rattle.gh_base.specs.declared.layout.Layout.{Layout}
+use Rattle.gh_poll.specs.Vocabulary.{FindRoom, IsHeld, Layout, MarkStack, MarkStackStage, Runs, Shading}
 use Rattle.gh_base.specs.Cells.{seats_of}
-use Rattle.gh_base.specs.Holding.{IsHeld}
-use Rattle.gh_base.specs.Machines.{Runs}
 use Rattle.gh_shade.specs.declared.shade.ShadeStage.TheVariants.{WaitForRoom}
 use Rattle.gh_shade.specs.Listing as shade
 use Rattle.gh_shade.specs.Sound.{SoundShading}
 use Rattle.gh_stack.specs.Listing as stack
 use Rattle.gh_stack.specs.Sound.{SoundStackScan}
 use Rattle.gh_wbuf.specs.RoomFinding as room
-use Rattle.gh_poll.specs.declared.mark_stack.MarkStack.{MarkStack}
-use Rattle.gh_poll.specs.declared.mark_stack.MarkStackStage.{MarkStackStage}
-use Rattle.gh_poll.specs.declared.mark_stack.MarkStackStage.TheVariants.{Shading, FindRoom, Store}
+use Rattle.gh_poll.specs.declared.mark_stack.MarkStackStage.TheVariants.{Store}
 
 -- the scan waits until what it wishes for is shaded
 pub record StackScanShades (l : Layout) (scan : stack.StackScan) (sh : shade.Shading) : Type 0 where

@@ -1,25 +1,11 @@
 -- The poll of a processor: what is asked for at each stage, where that leads, and what it has given there.
 use Rattle.std.specs.Prelude.{ℕ, ◌+◌, ◌%◌, ◌^◌, Bool, true, false, not, nat_lt, nat_le, ◌==◌, ◌&&◌, if◌then◌else◌, List, [], ◌∷◌, slice_index_or, slice_set, Option, Some, None, is_none}
-use Rattle.gh_base.specs.declared.cell.Cell.TheVariants as cell
-use Rattle.gh_base.specs.declared.cell.Ask.{Ask}
-use Rattle.gh_base.specs.declared.cell.Ask.TheVariants.{Load}
-use Rattle.gh_base.specs.declared.held.Held.{Held}
-use Rattle.gh_base.specs.declared.layout.Layout.{Layout}
-use Rattle.gh_base.specs.declared.pack.TheConstants.{END, ENTRIES}
-use Rattle.gh_base.specs.Footprints.{Footprint}
+use Rattle.gh_poll.specs.Vocabulary.{Ask, Cell, END, Ended, ENTRIES, Footprint, Held, Layout, Listing, Load, LoadPhase, Local, Marking, phase_of, PollStage, Resumed, Resuming, run_phase, RunPhase, steps_of}
 use Rattle.gh_base.specs.Footprints as row
-use Rattle.gh_base.specs.Machines.{Listing, steps_of}
-use Rattle.gh_base.specs.Packing.{phase_of}
 use Rattle.gh_base.specs.Routines as routine
-use Rattle.gh_phase.specs.declared.resume.Resumed.{Resumed}
-use Rattle.gh_phase.specs.declared.view.RunPhase.{RunPhase}
-use Rattle.gh_phase.specs.declared.view.RunPhase.TheVariants as run
 use Rattle.gh_phase.specs.Listing as resume
-use Rattle.gh_phase.specs.Views.{run_phase}
 use Rattle.gh_wbuf.specs.RoomFinding as room
-use Rattle.gh_poll.specs.declared.poll.Local.{Local}
-use Rattle.gh_poll.specs.declared.poll.PollStage.{PollStage}
-use Rattle.gh_poll.specs.declared.poll.PollStage.TheVariants.{LoadPhase, Giving, Resuming, Marking, FindRoom, Ended}
+use Rattle.gh_poll.specs.declared.poll.PollStage.TheVariants.{Giving, FindRoom}
 use Rattle.gh_poll.specs.Give as give
 use Rattle.gh_poll.specs.MarkStack as mark
 use Rattle.gh_poll.specs.PollSound.{SoundPolling}
@@ -75,9 +61,9 @@ scans l p (Some g) = begins_stack l p g
 
 -- where the world runs: by what the processor knows of the phase
 abbrev pub marks_then : Layout → Polling → RunPhase → Polling
-marks_then l p run.Mark = scans l p (due l p)
-marks_then l p run.Off = at_stage p Ended
-marks_then l p run.Finished = at_stage p Ended
+marks_then l p RunPhase.Mark = scans l p (due l p)
+marks_then l p RunPhase.Off = at_stage p Ended
+marks_then l p RunPhase.Finished = at_stage p Ended
 
 -- at the stop of this number it gives back; where nothing is left it acknowledges the stop
 abbrev pub stops_then : Polling → give.Giving → (stops : ℕ) → Polling
@@ -94,7 +80,7 @@ by_phase l p stops (Some phase) = marks_then l p p.local.view.phase
 
 -- what is owed behind a stop: where marking is off, or another cycle is marked, it is dropped
 abbrev pub owed_in : (another_cycle : Bool) → RunPhase → (owed : ℕ) → ℕ
-owed_in false run.Mark owed = owed
+owed_in false RunPhase.Mark owed = owed
 owed_in another_cycle phase owed = 0
 
 abbrev pub owed_then : Resumed → (owed : ℕ) → ℕ
@@ -121,12 +107,12 @@ after_room p r None = at_stage p (FindRoom r)
 after_room p r (Some h) = record p { local = record (p.local) { held = Some h }; stage = Ended }
 
 abbrev pub asks_at : PollStage → Ask
-asks_at LoadPhase = Load cell.Phase
+asks_at LoadPhase = Load Cell.Phase
 asks_at (Giving g stops) = give.asks g
 asks_at (Resuming r) = resume.asks r
 asks_at (Marking g m) = mark.asks m
 asks_at (FindRoom r) = room.asks r
-asks_at Ended = Load cell.Touch
+asks_at Ended = Load Cell.Touch
 
 abbrev pub goes_at : Layout → Polling → PollStage → ℕ → Polling
 goes_at l p LoadPhase found = by_phase l p (phase_of found).stops (run_phase (phase_of found).phase)

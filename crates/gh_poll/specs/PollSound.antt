@@ -1,18 +1,11 @@
 -- What a poll knows of its own numbers and routines, whatever it is told.
 use Rattle.std.specs.Prelude.{◌≡◌, ℕ, ◌^◌, ◌<◌, Bool, true, false, [], length, slice_index_or}
-use Rattle.gh_base.specs.declared.layout.Layout.{Layout}
-use Rattle.gh_base.specs.declared.limits.TheConstants.{MOST_GOROUTINES, REGISTERS}
-use Rattle.gh_base.specs.Holding.{IsHeld}
-use Rattle.gh_base.specs.Machines.{Runs}
-use Rattle.gh_class.specs.declared.class.TheConstants.{SPAN_CLASSES}
+use Rattle.gh_poll.specs.Vocabulary.{Ended, FitsView, IsHeld, Layout, LoadPhase, Local, Marking, MOST_GOROUTINES, PollStage, REGISTERS, Resuming, Runs, SPAN_CLASSES}
 use Rattle.gh_phase.specs.Listing as resume
-use Rattle.gh_phase.specs.Views.{FitsView}
 use Rattle.gh_wbuf.specs.RoomFinding as room
-use Rattle.gh_poll.specs.declared.poll.Local.{Local}
-use Rattle.gh_poll.specs.declared.poll.PollStage.{PollStage}
 use Rattle.gh_poll.specs.declared.poll.PollAt.{PollAt}
 use Rattle.gh_poll.specs.declared.poll.PollAt.TheVariants.{Begins, Amid, Over}
-use Rattle.gh_poll.specs.declared.poll.PollStage.TheVariants.{LoadPhase, Giving, Resuming, Marking, FindRoom, Ended}
+use Rattle.gh_poll.specs.declared.poll.PollStage.TheVariants.{Giving, FindRoom}
 use Rattle.gh_poll.specs.Give as give
 use Rattle.gh_poll.specs.GiveSound.{FitsCache}
 use Rattle.gh_poll.specs.MarkStack as mark

@@ -1,7 +1,6 @@
 -- A poll, and what the processor alone knows.
 use Rattle.std.specs.Prelude.{ℕ, Bool}
-use Rattle.gh_poll.specs.declared.poll.Local.{Local}
-use Rattle.gh_poll.specs.declared.poll.PollStage.{PollStage}
+use Rattle.gh_poll.specs.Vocabulary.{Local, PollStage}
 
 -- whether it is a part of a wait, what the processor alone knows, and its stage
 pub record Polling : Type 0 where

@@ -1,5 +1,5 @@
 -- What a poll and a leave run beside their own steps writes no word of the handshake.
-use Rattle.gh_phase.specs.Handshake.{IsQuietInHandshake}
+use Rattle.gh_poll.specs.Vocabulary.{IsQuietInHandshake}
 use Rattle.gh_poll.specs.Give as give
 use Rattle.gh_poll.specs.MarkStack as mark
 

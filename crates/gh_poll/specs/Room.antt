@@ -1,7 +1,6 @@
 -- How many entries a processor has room for, as it knows.
 use Rattle.std.specs.Prelude.{ℕ, ◌-◌, if◌then◌else◌, Option, Some, None}
-use Rattle.gh_base.specs.declared.held.Held.{Held}
-use Rattle.gh_base.specs.declared.pack.TheConstants.{ENTRIES}
+use Rattle.gh_poll.specs.Vocabulary.{ENTRIES, Held}
 use Rattle.gh_poll.specs.Local.{marking_at}
 use Rattle.gh_poll.specs.Poll.{Polling}
 

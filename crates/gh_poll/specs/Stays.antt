@@ -1,23 +1,14 @@
 -- What the steps of a poll and a wait leave as it is: the seat, the registers and what was drawn. And what single steps come to, for the crates above that cite it.
-use Rattle.std.proofs.Common.{ap, arith}
-use Rattle.std.specs.Prelude.{◌≡◌, ◌==◌, ℕ, ◌<◌, Bool, true, cond, List, Option, Some, None, refl}
-use Rattle.gh_assist.specs.Listing.{Assisting}
-use Rattle.gh_base.specs.declared.held.Held.{Held}
-use Rattle.gh_base.specs.declared.layout.Layout.{Layout}
-use Rattle.gh_base.specs.declared.value.Value.{Value}
-use Rattle.gh_phase.specs.declared.resume.Resumed.{Resumed}
-use Rattle.gh_shade.specs.declared.shade.Shaded.{Shaded}
+use Rattle.std.proofs.Common.{ap, arith, ◌≡◌, ◌==◌, ℕ, ◌<◌, Bool, true, cond, List, Option, Some, None, refl}
+use Rattle.gh_poll.specs.Vocabulary.{Assisting, GiveStage, Held, Layout, Resumed, Shaded, Value, WaitStage}
 use Rattle.gh_shade.specs.Listing as shade
 use Rattle.gh_wbuf.specs.RoomFinding as room
-use Rattle.gh_poll.specs.declared.give.GiveStage.TheVariants as give_stage
-use Rattle.gh_poll.specs.declared.wait.WaitStage.{WaitStage}
-use Rattle.gh_poll.specs.declared.wait.WaitStage.TheVariants as wait_stage
 use Rattle.gh_poll.specs.Give as give
 use Rattle.gh_poll.specs.Leave as leave
 use Rattle.gh_poll.specs.Local.{with_payment}
 use Rattle.gh_poll.specs.MarkStack as mark
 use Rattle.gh_poll.specs.Poll as poll
-use Rattle.gh_poll.specs.Poll.{after_mark, after_resume, after_room, by_phase, due, giving, marks_then, Polling, resumed, scans, stops_then}
+use Rattle.gh_poll.specs.Poll.{after_room, Polling, resumed}
 use Rattle.gh_poll.specs.Wait as wait
 use Rattle.gh_poll.specs.Wait.{Waiting}
 
@@ -52,7 +43,7 @@ poll_spent l p found = ap (λ (x : ℕ × List (List Value) × ℕ). x.2) (poll_
 after_keeps : (w : Waiting) (p : Polling) (out : Option (Unit {0})) → kept (wait.after_poll w p out).poll ≡ kept p
 after_keeps w p out = grind arith
 
-swept_keeps : (w : Waiting) (later : Bool) → kept (cond later (wait.at_stage w wait_stage.Ended) (wait.polling w)).poll ≡ kept w.poll
+swept_keeps : (w : Waiting) (later : Bool) → kept (cond later (wait.at_stage w WaitStage.Ended) (wait.polling w)).poll ≡ kept w.poll
 swept_keeps w later = grind arith
 
 wait_at : (l : Layout) (w : Waiting) (stage : WaitStage) (found : ℕ) → kept (wait.goes_at l w stage found).poll ≡ kept w.poll
@@ -68,7 +59,7 @@ pub wait_spent : (l : Layout) (w : Waiting) (found : ℕ) → (wait.goes l w fou
 wait_spent l w found = grind (arith, wait_at)
 
 -- it ends by a later cycle than it knew, which it loads
-pub ends_later : (l : Layout) (w : Waiting) (stage : WaitStage) (found : ℕ) (x : Unit {0}) → wait.given (wait.goes_at l w stage found).wait.stage ≡ Some x → (stage ≡ wait_stage.LoadSwept) × (w.wait.known < found)
+pub ends_later : (l : Layout) (w : Waiting) (stage : WaitStage) (found : ℕ) (x : Unit {0}) → wait.given (wait.goes_at l w stage found).wait.stage ≡ Some x → (stage ≡ WaitStage.LoadSwept) × (w.wait.known < found)
 ends_later l w stage found x e = grind arith
 
 -- ---- what single steps come to
@@ -82,5 +73,5 @@ pub payment_spent : (p : Polling) (x : Assisting) → (with_payment p x).local.s
 payment_spent p x = refl
 
 -- the giving back of spans begins where the lock was free
-pub lock_leads : (g : give.Giving) (found : ℕ) (free : Bool) → (found == 0) ≡ free → give.goes_at g give_stage.Lock found ≡ give.at_stage g (cond free (give.stage_from g.cache 0) give_stage.Lock)
-lock_leads g found free e = ap (λ (b : Bool). give.at_stage g (cond b (give.stage_from g.cache 0) give_stage.Lock)) e
+pub lock_leads : (g : give.Giving) (found : ℕ) (free : Bool) → (found == 0) ≡ free → give.goes_at g GiveStage.Lock found ≡ give.at_stage g (cond free (give.stage_from g.cache 0) GiveStage.Lock)
+lock_leads g found free e = ap (λ (b : Bool). give.at_stage g (cond b (give.stage_from g.cache 0) GiveStage.Lock)) e

@@ -1,15 +1,8 @@
 -- A processor waits for a cycle: what is asked for at each stage, where that leads, and what it has given there.
 use Rattle.std.specs.Prelude.{◌≡◌, ℕ, Bool, true, nat_lt, if◌then◌else◌, Option, Some, None, is_none}
-use Rattle.gh_base.specs.declared.cell.Cell.TheVariants as cell
-use Rattle.gh_base.specs.declared.cell.Ask.{Ask}
-use Rattle.gh_base.specs.declared.cell.Ask.TheVariants.{Load, Or}
-use Rattle.gh_base.specs.declared.layout.Layout.{Layout}
-use Rattle.gh_base.specs.Footprints.{Footprint}
+use Rattle.gh_poll.specs.Vocabulary.{Ask, Cell, Footprint, Layout, Listing, Load, Or, steps_of, Wait, WaitStage}
 use Rattle.gh_base.specs.Footprints as row
-use Rattle.gh_base.specs.Machines.{Listing, steps_of}
 use Rattle.gh_base.specs.Routines as routine
-use Rattle.gh_poll.specs.declared.wait.Wait.{Wait}
-use Rattle.gh_poll.specs.declared.wait.WaitStage.{WaitStage}
 use Rattle.gh_poll.specs.declared.wait.WaitStage.TheVariants.{Want, Polling, LoadSwept, Ended}
 use Rattle.gh_poll.specs.Poll as poll
 use Rattle.gh_poll.specs.PollSound.{SoundPolling}
@@ -46,10 +39,10 @@ is_later known found = nat_lt known found
 
 module _ (w : Waiting) where
   abbrev pub asks_at : WaitStage → Ask
-  asks_at Want = Or cell.Want 1
+  asks_at Want = Or Cell.Want 1
   asks_at Polling = poll.asks w.poll
-  asks_at LoadSwept = Load cell.Swept
-  asks_at Ended = Load cell.Touch
+  asks_at LoadSwept = Load Cell.Swept
+  asks_at Ended = Load Cell.Touch
 
 abbrev pub goes_at : Layout → Waiting → WaitStage → ℕ → Waiting
 goes_at l w Want found = polling w

@@ -1,6 +1,6 @@
 -- What a wait knows of the poll that it runs, whatever it is told.
 use Rattle.std.specs.Prelude.{◌≡◌, true}
-use Rattle.gh_poll.specs.declared.wait.Wait.{Wait}
+use Rattle.gh_poll.specs.Vocabulary.{Wait}
 use Rattle.gh_poll.specs.Poll as poll
 use Rattle.gh_poll.specs.Wait.{is_busy, PollsOn}
 

@@ -1,19 +1,9 @@
 -- The statements of a whole run, as the heap that never frees is run along them.
-use Rattle.std.proofs.Common.{◌≡◌, ℕ, ◌&&◌, Bool, true, false, cond, eqb, List, [], ◌∷◌, map, length, Option, Some, None, refl, sym, ap, ◌∙◌}
-use Rattle.std.specs.Prelude.{IfSome}
-use Rattle.std.proofs.lemmas.List.{length-map}
-use Rattle.gh_ever.specs.Lists.{ever_of, Lists}
-use Rattle.gh_lines.specs.Text.{answers_by}
-use Rattle.gh_mutator.specs.Serving.{is_statement}
-use Rattle.gh_lists.specs.Order.{acted_in, Answered}
+use Rattle.std.proofs.Common.{◌≡◌, ℕ, ◌&&◌, Bool, true, false, cond, eqb, List, [], ◌∷◌, map, length, Option, Some, None, refl, sym, ap, ◌∙◌, IfSome}
+use Rattle.gh_replay.proofs.Vocabulary.{acted_by, acted_in, Answer, Answered, answers_by, answers_of, AreAlong, Entry, ever_at_end, ever_of, EveryOrderHasOneRun, HaveStatements, is_statement, IsEverAfter, IsExplained, IsReplayed, its_goroutine, Layout, LaysOut, length-map, Lists, Op, op_at_point, Outcome, Plan, points_in, PointsAreStatements, Program, statement_as_op, statements_acted, statements_of, StatementsAreEnough, WellFormed}
 use Rattle.gh_lists.specs.Order as run
-use Rattle.gh_world.specs.Points.{answers_of, op_at_point, PointsAreStatements, statements_acted, StatementsAreEnough}
-use Rattle.gh_world.specs.Runs.{acted_by, EveryOrderHasOneRun}
-use Rattle.gh_world.specs.World.{points_in}
-use Rattle.gh_replay.specs.Check.{AreAlong, ever_at_end, HaveStatements, IsEverAfter}
 use Rattle.gh_replay.proofs.OneOutcome.{one_ever}
 use Rattle.gh_replay.proofs.OneRun.{is_so_far}
-use Rattle.gh_replay.proofs.Vocabulary.{Answer, Entry, IsExplained, IsReplayed, its_goroutine, Layout, LaysOut, Op, Outcome, Plan, Program, statement_as_op, statements_of, WellFormed}
 
 -- a goroutine's statements are among all statements
 its_statements : (g : ℕ) (xs : List Answered) → acted_by g (statements_acted xs) ≡ acted_by g xs

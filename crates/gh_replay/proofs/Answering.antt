@@ -1,16 +1,6 @@
 -- As many statements are answered as the processors have answered, each of its own.
-use Rattle.std.proofs.Common.{◌≡◌, ℕ, zero, suc, ◌+◌, ◌<◌, ◌≤◌, List, [], ◌∷◌, length, Option, Some, is_some, refl, ap, ◌∙◌, arith, inl, inr}
-use Rattle.std.specs.Prelude.{◌⊎◌, slice_get}
-use Rattle.std.proofs.lemmas.Bool.{cases_lt}
-use Rattle.std.proofs.lemmas.List.Sums.{sum_by-cons}
-use Rattle.gh_base.specs.declared.value.Answer.{Answer}
-use Rattle.gh_base.specs.declared.operation.Op.{Op}
-use Rattle.gh_base.specs.declared.layout.Layout.{Layout}
-use Rattle.gh_base.specs.declared.machine.Entry.{Entry}
-use Rattle.gh_base.specs.declared.shape.Shape.{Shape}
-use Rattle.gh_base.specs.Packing.{bit}
-use Rattle.gh_world.specs.declared.runner.Runner.{Runner}
-use Rattle.gh_world.specs.World.{answer_in, answered_by, marks_at, with_goroutine}
+use Rattle.std.proofs.Common.{◌≡◌, ℕ, zero, suc, ◌+◌, ◌<◌, ◌≤◌, List, [], ◌∷◌, length, Option, Some, is_some, refl, ap, ◌∙◌, arith, inl, inr, ◌⊎◌, slice_get}
+use Rattle.gh_replay.proofs.Vocabulary.{Answer, answer_in, answered_by, bit, cases_lt, Entry, Layout, marks_at, Op, Runner, Shape, sum_by-cons, with_goroutine}
 
 module _ (shapes : List Shape) (l : Layout) where
   -- how many statements n processors have answered, from seat b on

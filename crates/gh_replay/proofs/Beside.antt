@@ -1,26 +1,11 @@
 -- The heap that never frees among the statements of a run: how it stands behind the first of them.
-use Rattle.std.proofs.Common.{◌≡◌, ℕ, ◌+◌, ◌-◌, ◌<◌, ◌≤◌, Bool, true, false, cond, eqb, ◌&&◌, List, ◌∷◌, map, length, drop, get_or, Option, Some, None, refl, sym, ap, subst, ◌∙◌, arith, inl, inr}
-use Rattle.std.specs.Prelude.{option_map, slice_get}
-use Rattle.std.proofs.Math.ListN.{set}
-use Rattle.std.proofs.lemmas.Bool.{cases_lt, eq-eqb, eqb-true}
-use Rattle.std.proofs.lemmas.List.{drop_more, get_or_past, get_or-set_other, get_or-set_same, length-map, length-set}
-use Rattle.std.proofs.lemmas.Option.{slice_get-get_or, slice_get-map}
-use Rattle.gh_base.specs.declared.operation.Op.TheVariants as op
-use Rattle.gh_base.specs.declared.value.Answer.TheVariants as answer
+use Rattle.std.proofs.Common.{◌≡◌, ℕ, ◌+◌, ◌-◌, ◌<◌, ◌≤◌, Bool, true, false, cond, eqb, ◌&&◌, List, ◌∷◌, map, length, drop, get_or, Option, Some, None, refl, sym, ap, subst, ◌∙◌, arith, inl, inr, option_map, slice_get}
+use Rattle.std.proofs.lemmas.Bool.{eq-eqb, eqb-true}
+use Rattle.std.proofs.lemmas.List.{get_or-set_other, get_or-set_same, length-set}
+use Rattle.gh_replay.proofs.Vocabulary.{acted_by, AllAnswer, Answer, Answered, answers_of, answers_untaken, AreAlong, cases_lt, drop_more, Ever, ever_after, ever_after_all, ever_along, ever_of, get_or_past, Goroutine, is_statement, is_statement_of, its_goroutine, length-map, Lists, no_goroutine, Op, op_at_point, ops_of, Program, set, slice_get-get_or, slice_get-map, statement_as_op, statement_at}
 use Rattle.gh_ever.specs.Applied.{given_answer, IsDue, spent}
-use Rattle.gh_ever.specs.Lists.{ever_of, Lists}
-use Rattle.gh_model.specs.Answers.{AllAnswer, ever_after_all}
-use Rattle.gh_model.specs.Ever.{Ever, ever_after}
-use Rattle.gh_script.specs.Program.{Goroutine, no_goroutine, statement_at}
 use Rattle.gh_script.specs.declared.statement.Stmt.{Stmt}
-use Rattle.gh_mutator.specs.Serving.{is_statement}
-use Rattle.gh_lists.specs.Order.{Answered}
-use Rattle.gh_world.specs.Points.{answers_of, ever_along, op_at_point, ops_of}
-use Rattle.gh_world.specs.Runs.{acted_by}
-use Rattle.gh_world.specs.Turns.{is_statement_of}
 use Rattle.gh_replay.specs.declared.check.Told.{Told}
-use Rattle.gh_replay.specs.Check.{answers_untaken, AreAlong}
-use Rattle.gh_replay.proofs.Vocabulary.{Answer, its_goroutine, Op, Program, statement_as_op}
 
 -- ---- statements
 
@@ -143,7 +128,7 @@ module _ (p : Program) (xs more : List Answered) (x : Answered) (told : Told) (l
 -- ---- by the points
 
 abbrev pub none_yet : Answered
-none_yet = record { op = op.Poll; answer = answer.Done }
+none_yet = record { op = Op.Poll; answer = Answer.Done }
 
 module _ (p : Program) (points : List (ℕ × ℕ)) (answers : List (ℕ × Answer)) (xs : List Answered) (along : AreAlong p points answers xs) where
   pub as_many : length xs ≡ length points

@@ -1,10 +1,7 @@
 -- By an item without an actor that actor takes no turn.
 use Rattle.std.proofs.Common.{◌≡◌, ℕ, ◌<◌, true, false, eqb, List, ◌∷◌, Some, sym, ap, ◌∙◌}
 use Rattle.std.proofs.lemmas.Bool.{eq-eqb}
-use Rattle.gh_replay.specs.declared.schedule.Turn.{Turn}
-use Rattle.gh_replay.specs.declared.schedule.Until.TheVariants.{Without}
-use Rattle.gh_replay.specs.Scheduled.{OthersTakeTurns, reached_in, stands_in}
-use Rattle.gh_replay.specs.Standing.{ActorsSoFar, passed, Standing, to_come, who, who_of, with_actor_ended}
+use Rattle.gh_replay.proofs.Vocabulary.{ActorsSoFar, OthersTakeTurns, passed, reached_in, Standing, stands_in, to_come, Turn, who, who_of, with_actor_ended, Without}
 use Rattle.gh_replay.proofs.Choosing.{behind_there, either_false, next_low}
 use Rattle.gh_replay.proofs.OneRun.{stands_low}
 

@@ -1,12 +1,6 @@
 -- The lines of a replay: those of its outcome, and where it was checked one more.
-use Rattle.std.proofs.Common.{◌≡◌, ℕ, ◌+◌, ◌-◌, ◌<◌, ◌≤◌, Bool, true, false, cond, List, [], ◌∷◌, length, get_or, Some, refl, sym, ap, ◌∙◌, arith, length-append}
-use Rattle.std.specs.Prelude.{slice_get}
-use Rattle.std.proofs.lemmas.List.{get_or_append_left, get_or-append_right}
-use Rattle.std.proofs.lemmas.Option.{get_or_from_slice_get, slice_get-get_or, slice_get_within}
-use Rattle.gh_base.specs.Packing.{bit}
-use Rattle.gh_lines.specs.Text.{agrees_line, Outcome, outcome_lines}
-use Rattle.gh_script.specs.Program.{Program}
-use Rattle.gh_replay.specs.Report.{replay_lines}
+use Rattle.std.proofs.Common.{◌≡◌, ℕ, ◌+◌, ◌-◌, ◌<◌, ◌≤◌, Bool, true, false, cond, List, [], ◌∷◌, length, get_or, Some, refl, sym, ap, ◌∙◌, arith, length-append, slice_get}
+use Rattle.gh_replay.proofs.Vocabulary.{agrees_line, bit, get_or-append_right, get_or_append_left, get_or_from_slice_get, Outcome, outcome_lines, Program, replay_lines, slice_get-get_or, slice_get_within}
 
 module _ (p : Program) (o : Outcome) where
   abbrev last : Bool → List (List ℕ)

@@ -1,17 +1,7 @@
 -- Who steps next, where a schedule stands so: an actor that has not ended, or nobody where all have.
-use Rattle.std.proofs.Common.{◌≡◌, ℕ, zero, suc, ◌+◌, ◌-◌, ◌%◌, ◌<◌, ◌≤◌, Bool, true, false, cond, eqb, not, ◌||◌, List, [], ◌∷◌, ◌++◌, length, Option, Some, None, refl, sym, ap, ◌∙◌, arith, inl, inr}
-use Rattle.std.specs.Prelude.{◌⊎◌, IfSome, nat_le, slice_get}
-use Rattle.std.specs.List.{filter, range_with_len}
-use Rattle.std.proofs.lemmas.Bool.{cases_lt}
-use Rattle.std.proofs.lemmas.Bool.Decides.{nat_tests}
+use Rattle.std.proofs.Common.{◌≡◌, ℕ, zero, suc, ◌+◌, ◌-◌, ◌%◌, ◌<◌, ◌≤◌, Bool, true, false, cond, eqb, not, ◌||◌, List, [], ◌∷◌, ◌++◌, length, Option, Some, None, refl, sym, ap, ◌∙◌, arith, inl, inr, ◌⊎◌, IfSome, nat_le, slice_get}
 use Rattle.std.proofs.lemmas.List.{append-nil}
-use Rattle.std.proofs.lemmas.Option.{slice_get-get_or}
-use Rattle.rand_xoshiro.specs.SplitMix64.{mix_u64}
-use Rattle.gh_world.specs.Schedule.{first_going, in_order_from, turn_from}
-use Rattle.gh_replay.specs.declared.schedule.Turn.{Turn}
-use Rattle.gh_replay.specs.declared.schedule.Until.{Until}
-use Rattle.gh_replay.specs.declared.schedule.Until.TheVariants.{Steps, Marks, Without}
-use Rattle.gh_replay.specs.Standing.{ActorsSoFar, going, is_gone, is_over, is_over_by, moved, next_of, passed, Standing, stands_behind, to_come, who, who_behind, who_by, who_of, with_actor_ended}
+use Rattle.gh_replay.proofs.Vocabulary.{ActorsSoFar, cases_lt, filter, first_going, going, in_order_from, is_gone, is_over, is_over_by, Marks, mix_u64, moved, nat_tests, next_of, passed, range_with_len, slice_get-get_or, Standing, stands_behind, Steps, to_come, Turn, turn_from, Until, who, who_behind, who_by, who_of, with_actor_ended, Without}
 
 -- ---- whose turn it is
 

@@ -1,12 +1,7 @@
 -- By one schedule a script's run ends within a budget, or so many turns of it are taken and an actor is not done.
 use Rattle.std.proofs.Common.{◌≡◌, ℕ, zero, suc, ◌+◌, ◌≤◌, Bool, true, false, eqb, ltb, List, [], ◌∷◌, length, Option, Some, None, refl, sym, ap, ◌∙◌, arith, inl, inr, ◌⊎◌}
-use Rattle.std.proofs.lemmas.Bool.Decides.{nat_tests}
-use Rattle.gh_base.specs.Lists.{started}
+use Rattle.gh_replay.proofs.Vocabulary.{Actor, actor_after, answers_given, Coordinating, EitherOne, Entry, EveryRunIsExplained, IsRun, IsRunSoFar, IsScheduled, Layout, LaysOut, Leads, most_cycles, nat_tests, Op, outcome_by, Plan, Program, reached_in, RunsEndWhole, RunsGoOn, setting_of, spent_after, stands_in, started, turns_of, WellFormed, who}
 use Rattle.gh_coord.specs.Listing as coord
-use Rattle.gh_lists.specs.declared.handshake.Actor.{Actor}
-use Rattle.gh_world.specs.Wishes.{most_cycles}
-use Rattle.gh_lists.specs.declared.handshake.Actor.TheVariants.{Leads}
-use Rattle.gh_replay.proofs.Vocabulary.{actor_after, answers_given, Coordinating, EitherOne, Entry, EveryRunIsExplained, IsRun, IsRunSoFar, IsScheduled, Layout, LaysOut, Op, outcome_by, Plan, Program, reached_in, RunsEndWhole, RunsGoOn, setting_of, spent_after, stands_in, turns_of, WellFormed, who}
 use Rattle.gh_replay.proofs.Choosing.{none_left, who_there}
 use Rattle.gh_replay.proofs.OneRun.{stands_low}
 

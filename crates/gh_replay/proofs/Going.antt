@@ -1,10 +1,7 @@
 -- The items to come are passed one by one, and the actors that have not ended are kept one by one.
-use Rattle.std.proofs.Common.{◌≡◌, ℕ, suc, ◌+◌, ◌-◌, ◌%◌, ◌<◌, ◌≤◌, Bool, true, false, cond, not, List, [], ◌∷◌, ◌++◌, length, drop, get_or, None, refl, sym, ap, ◌∙◌, append_assoc, arith}
-use Rattle.std.specs.Prelude.{slice_get}
-use Rattle.std.specs.List.{filter, range_with_len}
-use Rattle.std.proofs.lemmas.List.{append-nil, at_drop_more, drop_all}
-use Rattle.gh_replay.specs.declared.schedule.Turn.{Turn}
-use Rattle.gh_replay.specs.Standing.{ActorsSoFar, going, is_over, to_come}
+use Rattle.std.proofs.Common.{◌≡◌, ℕ, suc, ◌+◌, ◌-◌, ◌%◌, ◌<◌, ◌≤◌, Bool, true, false, cond, not, List, [], ◌∷◌, ◌++◌, length, drop, get_or, None, refl, sym, ap, ◌∙◌, append_assoc, arith, slice_get}
+use Rattle.std.proofs.lemmas.List.{append-nil}
+use Rattle.gh_replay.proofs.Vocabulary.{ActorsSoFar, at_drop_more, drop_all, filter, going, is_over, range_with_len, to_come, Turn}
 
 -- ---- items
 

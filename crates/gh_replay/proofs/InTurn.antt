@@ -1,14 +1,6 @@
 -- Where a schedule says nothing the actors take turns in ascending order.
 use Rattle.std.proofs.Common.{◌≡◌, ℕ, List, [], ◌∷◌, None, refl, sym, ap, ◌∙◌, arith}
-use Rattle.gh_base.specs.declared.operation.Op.{Op}
-use Rattle.gh_base.specs.declared.layout.Layout.{Layout}
-use Rattle.gh_base.specs.declared.machine.Entry.{Entry}
-use Rattle.gh_script.specs.Program.{Program}
-use Rattle.gh_world.specs.Schedule.{IsInTurn, next_in}
-use Rattle.gh_world.specs.World.{setting_of, turn_in}
-use Rattle.gh_replay.specs.Plan.{no_plan}
-use Rattle.gh_replay.specs.Scheduled.{IsScheduled, NothingSaidIsInTurn, reached_in, stands_in}
-use Rattle.gh_replay.specs.Standing.{moved, Standing, who}
+use Rattle.gh_replay.proofs.Vocabulary.{Entry, IsInTurn, IsScheduled, Layout, moved, next_in, no_plan, NothingSaidIsInTurn, Op, Program, reached_in, setting_of, Standing, stands_in, turn_in, who}
 
 module _ (p : Program) (l : Layout) where
   abbrev alone : ℕ → Standing

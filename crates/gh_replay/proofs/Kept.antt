@@ -1,13 +1,8 @@
 -- Who goes on behind a step: whoever did, but for its actor where the step says that this is done.
-use Rattle.std.proofs.Common.{◌≡◌, ◌≢◌, ℕ, zero, suc, ◌+◌, ◌<◌, Bool, true, false, cond, eqb, eq-eqb, not, List, ◌∷◌, Option, refl, sym, ap, ◌∙◌, arith}
-use Rattle.std.specs.Prelude.{◌↔◌, IfSome, is_some, IsNone}
-use Rattle.std.specs.List.{filter, range_with_len}
+use Rattle.std.proofs.Common.{◌≡◌, ◌≢◌, ℕ, zero, suc, ◌+◌, ◌<◌, Bool, true, false, cond, eqb, eq-eqb, not, List, ◌∷◌, Option, refl, sym, ap, ◌∙◌, arith, ◌↔◌, IfSome, is_some, IsNone}
 use Rattle.std.proofs.lemmas.Bool.{eqb-true}
-use Rattle.gh_base.specs.Cells.{seats_of}
-use Rattle.gh_base.specs.declared.shape.Shape.{Shape}
-use Rattle.gh_base.specs.Lists.{started}
+use Rattle.gh_replay.proofs.Vocabulary.{Actor, actor_after, actors_of, AllGoOn, Answer, Appends, Cycle, done_or, Entry, Event, event_at, event_by, event_of, filter, going, has_ended, has_left_at, is_done, is_last, IsAfter, KnowsThoseGoing, Layout, layout_of, Name, Op, Program, range_with_len, script_of, seats_of, seen_of, setting_of, Shape, started, State, told_event}
 use Rattle.gh_coord.specs.declared.coord.CoordStage.{CoordStage}
-use Rattle.gh_coord.specs.declared.cycles.Cycle.{Cycle}
 use Rattle.gh_coord.specs.Listing as coord
 use Rattle.gh_poll.specs.declared.leave.LeaveStage.{LeaveStage}
 use Rattle.gh_mutator.specs.declared.new.NewStage.{NewStage}
@@ -20,26 +15,17 @@ use Rattle.gh_poll.specs.Leave as leave
 use Rattle.gh_mutator.specs.Listing.{after_gc, after_leave, after_poll, follows, takes_at}
 use Rattle.gh_mutator.specs.New.{after_assist, after_search, after_wait, made_task}
 use Rattle.gh_mutator.specs.New as new
-use Rattle.gh_mutator.specs.Serving.{has_left_at, is_last}
-use Rattle.gh_mutator.specs.Vocabulary.{Assisting, Found, Leaving, Name, Placing, Polling, Seeking, Waiting}
-use Rattle.gh_world.specs.declared.event.Event.{Event}
-use Rattle.gh_world.specs.declared.event.Event.TheVariants as event
-use Rattle.gh_lists.specs.declared.handshake.Actor.{Actor}
+use Rattle.gh_mutator.specs.Vocabulary.{Assisting, Found, Leaving, Placing, Polling, Seeking, Waiting}
 use Rattle.gh_lists.specs.Handshake.{actor_takes}
-use Rattle.gh_world.specs.Schedule.{has_ended}
-use Rattle.gh_world.specs.World.{done_or, event_at, event_by, event_of, told_event}
 use Rattle.gh_replay.specs.declared.place.Place as place
-use Rattle.gh_replay.specs.Places.{AllGoOn, KnowsThoseGoing, seen_of}
-use Rattle.gh_replay.specs.Standing.{going}
-use Rattle.gh_replay.proofs.Vocabulary.{actor_after, actors_of, Answer, Appends, Entry, is_done, IsAfter, Layout, layout_of, Op, Program, script_of, setting_of, State}
 
 -- ---- a step says that its actor is done exactly where it is then
 
 abbrev pub is_finished : Event → Bool
-is_finished (event.Answered g n a) = false
-is_finished event.Moved = false
-is_finished (event.Swept k marked freed) = false
-is_finished event.Finished = true
+is_finished (Event.Answered g n a) = false
+is_finished Event.Moved = false
+is_finished (Event.Swept k marked freed) = false
+is_finished Event.Finished = true
 
 -- what a step says of a processor, and of another actor
 of_last : (now : ℕ × ℕ) (last : Bool) (a : Option Answer) → is_finished (event_at now last a) ≡ last

@@ -1,12 +1,7 @@
 -- A number in its range is read digit by digit.
-use Rattle.std.proofs.Common.{◌≡◌, ℕ, ◌+◌, ◌-◌, ◌*◌, ◌^◌, ◌<◌, ◌≤◌, Bool, true, false, cond, eqb, ltb, ◌&&◌, ◌||◌, List, [], ◌∷◌, length, get_or, drop, Option, Some, None, refl, sym, ap, ◌∙◌, arith}
-use Rattle.std.specs.Prelude.{nat_le, option_and_then}
-use Rattle.std.specs.List.{list_all}
-use Rattle.std.proofs.lemmas.List.{at_drop_more, at_drop_all}
+use Rattle.std.proofs.Common.{◌≡◌, ℕ, ◌+◌, ◌-◌, ◌*◌, ◌^◌, ◌<◌, ◌≤◌, Bool, true, false, cond, eqb, ltb, ◌&&◌, ◌||◌, List, [], ◌∷◌, length, get_or, drop, Option, Some, None, refl, sym, ap, ◌∙◌, arith, nat_le, option_and_then}
 use Rattle.std.proofs.lemmas.Bool.{lt-ltb}
-use Rattle.std.proofs.lemmas.Bool.Decides.{nat_tests}
-use Rattle.gh_script.specs.Words.{is_digit, value_from, digits_value_of, number_spelled}
-use Rattle.gh_replay.specs.ListText.{ranged, within}
+use Rattle.gh_replay.proofs.Vocabulary.{at_drop_all, at_drop_more, digits_value_of, is_digit, list_all, nat_tests, number_spelled, ranged, value_from, within}
 
 -- the word has no byte, or more than 20
 abbrev pub unfit : List ℕ → Bool

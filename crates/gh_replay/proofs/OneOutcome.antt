@@ -1,22 +1,9 @@
 -- By one schedule a script's run ends within a budget or does not, and it comes to one outcome.
 use Rattle.std.proofs.Common.{◌≡◌, ℕ, ◌<◌, true, false, List, refl, sym, ap, subst, ◌∙◌, arith}
 use Rattle.std.specs.Coded.{le_prop}
+use Rattle.gh_replay.proofs.Vocabulary.{Actor, answers_given, Coordinating, ended_after, Entry, EveryOrderHasOneRun, IsExplained, IsReplayed, IsRun, IsRunSoFar, IsScheduled, Layout, LaysOut, Leads, NotBoth, OneOutcome, Op, Outcome, outcome_by, Plan, Program, setting_of, spent_after}
 use Rattle.gh_base.specs.Limits.{InLimits}
-use Rattle.gh_base.specs.declared.operation.Op.{Op}
-use Rattle.gh_base.specs.declared.layout.Layout.{Layout}
-use Rattle.gh_base.specs.declared.machine.Entry.{Entry}
-use Rattle.gh_script.specs.Program.{Program}
-use Rattle.gh_coord.specs.Listing.{Coordinating}
-use Rattle.gh_lines.specs.Text.{Outcome}
-use Rattle.gh_lists.specs.declared.handshake.Actor.{Actor}
-use Rattle.gh_lists.specs.declared.handshake.Actor.TheVariants.{Leads}
 use Rattle.gh_lists.specs.Order.{ever_of}
-use Rattle.gh_world.specs.Schedule.{ended_after}
-use Rattle.gh_world.specs.World.{LaysOut, setting_of}
-use Rattle.gh_world.specs.Runs.{IsRun, IsRunSoFar, IsExplained, EveryOrderHasOneRun, answers_given, outcome_by, spent_after}
-use Rattle.gh_replay.specs.Plan.{Plan}
-use Rattle.gh_replay.specs.Replayed.{IsReplayed, NotBoth, OneOutcome}
-use Rattle.gh_replay.specs.Scheduled.{IsScheduled}
 use Rattle.gh_replay.proofs.OneRun.{is_so_far, none_is_longer, one_run}
 
 both : {A B : Type 0} (x y : A × B) → x.0 ≡ y.0 → x.1 ≡ y.1 → x ≡ y

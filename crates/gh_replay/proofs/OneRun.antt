@@ -1,20 +1,8 @@
 -- By one schedule a script has one run: as many steps of it are the same steps, and none follows when it is over.
 use Rattle.std.proofs.Common.{◌≡◌, ℕ, ◌<◌, ◌≤◌, Bool, true, false, cond, eqb, List, [], ◌∷◌, ◌++◌, length, reverse, Option, Some, None, refl, sym, ap, subst, ◌∙◌, append_assoc, arith}
-use Rattle.std.specs.Option.{option_to_list}
 use Rattle.std.proofs.lemmas.Grind.{reverse_onto}
 use Rattle.std.proofs.lemmas.List.{append-nil}
-use Rattle.gh_base.specs.declared.operation.Op.{Op}
-use Rattle.gh_base.specs.declared.layout.Layout.{Layout}
-use Rattle.gh_base.specs.declared.machine.Entry.{Entry}
-use Rattle.gh_base.specs.Lists.{by}
-use Rattle.gh_script.specs.Program.{Program}
-use Rattle.gh_lists.specs.Order.{begun_in}
-use Rattle.gh_world.specs.Runs.{actors_in, EveryOrderHasOneRun, IsRun, IsRunSoFar}
-use Rattle.gh_world.specs.Turns.{turns_of}
-use Rattle.gh_world.specs.World.{setting_of}
-use Rattle.gh_replay.specs.Plan.{Plan}
-use Rattle.gh_replay.specs.Scheduled.{IsScheduled, reached_in, stands_in}
-use Rattle.gh_replay.specs.Standing.{who}
+use Rattle.gh_replay.proofs.Vocabulary.{actors_in, begun_in, by, Entry, EveryOrderHasOneRun, IsRun, IsRunSoFar, IsScheduled, Layout, Op, option_to_list, Plan, Program, reached_in, setting_of, stands_in, turns_of, who}
 use Rattle.gh_replay.proofs.Choosing.{moved_low}
 
 -- ---- a run so far, before its last step

@@ -1,12 +1,6 @@
 -- Who goes on but for one actor: in ascending order, and among those that are kept.
-use Rattle.std.proofs.Common.{◌≡◌, ℕ, ◌+◌, ◌-◌, ◌%◌, ◌<◌, ◌≤◌, Bool, true, false, cond, eqb, not, ◌||◌, List, [], ◌∷◌, ◌++◌, length, drop, get_or, Option, Some, None, refl, sym, ap, ◌∙◌, arith}
-use Rattle.std.specs.Prelude.{IfSome, slice_get}
-use Rattle.std.specs.List.{filter, range_with_len}
-use Rattle.std.proofs.lemmas.Bool.Decides.{nat_tests}
-use Rattle.std.proofs.lemmas.List.{at_drop_more}
-use Rattle.rand_xoshiro.specs.SplitMix64.{mix_u64}
-use Rattle.gh_world.specs.Schedule.{first_going, turn_from}
-use Rattle.gh_replay.specs.Standing.{ActorsSoFar, going, who_behind, with_actor_ended}
+use Rattle.std.proofs.Common.{◌≡◌, ℕ, ◌+◌, ◌-◌, ◌%◌, ◌<◌, ◌≤◌, Bool, true, false, cond, eqb, not, ◌||◌, List, [], ◌∷◌, ◌++◌, length, Option, Some, None, refl, sym, ap, ◌∙◌, arith, IfSome, slice_get}
+use Rattle.gh_replay.proofs.Vocabulary.{ActorsSoFar, filter, first_going, going, mix_u64, nat_tests, range_with_len, turn_from, who_behind, with_actor_ended}
 use Rattle.gh_replay.proofs.Going.{next_range}
 
 -- ---- in ascending order
@@ -96,10 +90,3 @@ chosen_but r actor next w x kept drawn o is word all says = grind (arith, going_
 -- one after the other
 abbrev pub but : ℕ → List ℕ → List ℕ
 but actor xs = filter (λ y. not (eqb actor y)) xs
-
-module _ (actor : ℕ) (xs : List ℕ) (i d : ℕ) (lt : i < length xs) where
-  pub but_this : eqb actor (get_or xs i d) ≡ true → but actor (drop i xs) ≡ but actor (drop (i + 1) xs)
-  but_this e = at_drop_more (but actor) xs i d lt ∙ ap (λ (b : Bool). cond (not b) (get_or xs i d ∷ but actor (drop (i + 1) xs)) (but actor (drop (i + 1) xs))) e
-
-  pub but_other : eqb actor (get_or xs i d) ≡ false → but actor (drop i xs) ≡ get_or xs i d ∷ but actor (drop (i + 1) xs)
-  but_other e = at_drop_more (but actor) xs i d lt ∙ ap (λ (b : Bool). cond (not b) (get_or xs i d ∷ but actor (drop (i + 1) xs)) (but actor (drop (i + 1) xs))) e

@@ -1,24 +1,12 @@
 -- Each name that the heap that never frees answers is one that a goroutine of the script gave.
 use Rattle.std.proofs.Common.{◌≡◌, ℕ, ◌<◌, ◌≤◌, Bool, true, false, cond, ◌==◌, List, [], ◌∷◌, ◌++◌, length, map, refl, sym, subst, ◌∙◌, inl, inr, arith}
-use Rattle.std.proofs.lemmas.Bool.{cases_lt, eq-eqb}
-use Rattle.std.specs.List.{AllByRecursion, filter}
-use Rattle.gh_base.specs.declared.value.Name.{Name}
-use Rattle.gh_base.specs.declared.value.Answer.TheVariants as answers
-use Rattle.gh_base.specs.declared.operation.Op.TheVariants as ops
-use Rattle.gh_base.specs.declared.shape.Shape.{Shape}
-use Rattle.gh_lines.specs.Text.{answers_by}
-use Rattle.gh_lists.specs.Order.{acted_in, Answered}
-use Rattle.gh_world.specs.Turns.{is_statement_of}
-use Rattle.gh_replay.specs.Report.{IsReportOf, ReportState}
+use Rattle.std.proofs.lemmas.Bool.{eq-eqb}
+use Rattle.gh_replay.proofs.Vocabulary.{acted_in, AllAnswer, AllByRecursion, Answer, Answered, Answers, answers_by, cases_lt, Ever, ever_after, filter, is_statement_of, IsReportOf, MakerStands, makes_object, Name, next_name, Op, opening_ever, Program, ReportState, sets_global, Shape, stores_value, takes_answer, with_object, with_register}
 use Rattle.gh_model.specs.declared.EverValue.{EverValue}
-use Rattle.gh_model.specs.declared.EverValue.TheVariants as values
-use Rattle.gh_model.specs.Ever.{Ever, opening_ever, ever_after, next_name, with_register, with_object, takes_answer, stores_value, sets_global, makes_object}
-use Rattle.gh_model.specs.Answers.{Answers, AllAnswer}
-use Rattle.gh_replay.proofs.Vocabulary.{Answer, MakerStands, Op, Program}
 
 module _ (shapes : List Shape) (n : ℕ) where
   abbrev pub Own : EverValue → Type 0
-  Own (values.Ref m) = m.g < n
+  Own (EverValue.Ref m) = m.g < n
   Own _ = Unit {0}
 
   pub record AllOwn (e : Ever) : Type 0 where
@@ -27,11 +15,11 @@ module _ (shapes : List Shape) (n : ℕ) where
     globals : (k : ℕ) → Own (e.global k)
 
   abbrev pub OwnOp : Op → Type 0
-  OwnOp (ops.New g d t) = g < n
+  OwnOp (Op.New g d t) = g < n
   OwnOp _ = Unit {0}
 
   abbrev pub OwnAnswer : Answer → Type 0
-  OwnAnswer (answers.Ref m) = m.g < n
+  OwnAnswer (Answer.Ref m) = m.g < n
   OwnAnswer _ = Unit {0}
 
   answer_own : (e : Ever) (o : Op) (a : Answer) → AllOwn e → OwnOp o → Answers shapes e o a → OwnAnswer a
@@ -49,7 +37,7 @@ module _ (shapes : List Shape) (n : ℕ) where
   sets_own : (e : Ever) (k : ℕ) (v : EverValue) (a : Answer) → AllOwn e → Own v → AllOwn (sets_global e k v a)
   sets_own e k v a x o = grind arith
 
-  made_own : (e : Ever) (g d t : ℕ) → AllOwn e → g < n → AllOwn (with_register (with_object shapes e g t) g d (values.Ref (next_name e g)))
+  made_own : (e : Ever) (g d t : ℕ) → AllOwn e → g < n → AllOwn (with_register (with_object shapes e g t) g d (EverValue.Ref (next_name e g)))
   made_own e g d t x o = grind arith
 
   makes_own : (e : Ever) (g d t : ℕ) (a : Answer) → AllOwn e → g < n → AllOwn (makes_object shapes e g d t a)
@@ -78,7 +66,7 @@ module _ (shapes : List Shape) (n : ℕ) where
   none_here x xs b e = grind arith
 
   op_own : (o : Op) → ((g : ℕ) → n ≤ g → is_statement_of g o ≡ false) → OwnOp o
-  op_own (ops.New g d t) none = elim (cases_lt g n) [
+  op_own (Op.New g d t) none = elim (cases_lt g n) [
     | inl lt ↦ lt
     | inr le ↦ absurd (let no : true ≡ false = sym (eq-eqb g g refl) ∙ none g le in cc)
   ]

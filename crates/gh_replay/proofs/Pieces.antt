@@ -1,16 +1,8 @@
 -- A text is cut into pieces from the front on, and each spells an item.
-use Rattle.std.proofs.Common.{◌≡◌, ℕ, ◌+◌, ◌<◌, ◌≤◌, Bool, true, false, cond, List, [], ◌∷◌, ◌++◌, length, get_or, take, drop, Option, Some, None, refl, sym, ap, ◌∙◌, append_assoc, suc, arith}
-use Rattle.std.specs.Prelude.{nat_le, option_map, slice_get}
-use Rattle.std.specs.List.{position_or_len, slice_split}
-use Rattle.std.proofs.lemmas.Bool.Decides.{nat_tests}
+use Rattle.std.proofs.Common.{◌≡◌, ℕ, ◌+◌, ◌<◌, ◌≤◌, Bool, true, false, cond, List, [], ◌∷◌, ◌++◌, length, get_or, take, drop, Option, Some, None, refl, sym, ap, ◌∙◌, append_assoc, suc, arith, nat_le, option_map, slice_get}
 use Rattle.std.proofs.lemmas.List.{append-nil, take_all}
-use Rattle.std.proofs.lemmas.List.Sums.{fails_before_first, position_or_len_is}
 use Rattle.std.proofs.lemmas.List.Splits.{slice_split_first, slice_split_none, length-slice_split}
-use Rattle.std.proofs.lemmas.Option.{slice_get_past, slice_get-get_or}
-use Rattle.gh_replay.specs.ListText.{is_comma, is_sign, list_of, ranged, turn_at, turn_read, turn_with, turns_read, until_of}
-use Rattle.gh_replay.specs.declared.list.TheConstants.{MOST_ITEMS}
-use Rattle.gh_replay.specs.declared.schedule.Turn.{Turn}
-use Rattle.gh_replay.specs.declared.schedule.Until.{Until}
+use Rattle.gh_replay.proofs.Vocabulary.{fails_before_first, is_comma, is_sign, list_of, MOST_ITEMS, nat_tests, position_or_len, position_or_len_is, ranged, slice_get-get_or, slice_get_past, slice_split, Turn, turn_at, turn_read, turn_with, turns_read, Until, until_of}
 
 -- a loop that ends without having met the test
 pub met_nowhere : (test : ℕ → Bool) (xs : List ℕ) (n : ℕ) → length xs ≤ n → ((k : ℕ) → k < n → test (get_or xs k 0) ≡ false) → length xs ≡ position_or_len test xs

@@ -1,19 +1,10 @@
 -- The rows of answers, one after the other, and their lines.
 use Rattle.std.proofs.Common.{◌≡◌, ℕ, ◌+◌, ◌-◌, ◌<◌, ◌≤◌, zero, suc, Bool, true, false, cond, eqb, nat_lt, List, [], ◌∷◌, ◌++◌, map, length, get_or, take, drop, Some, slice_get, refl, sym, ap, subst, ◌∙◌, arith, append_assoc, take-append-drop}
-use Rattle.std.specs.List.{AllByRecursion, flat_map, range_with_len}
-use Rattle.std.proofs.lemmas.Bool.Decides.{nat_tests}
 use Rattle.std.proofs.lemmas.Bool.{eq-eqb}
-use Rattle.std.proofs.lemmas.List.{get_or_append_left, get_or-append_right, take_more, length-append, append-nil, map-append, length-map}
-use Rattle.std.proofs.lemmas.Option.{get_or_from_slice_get, slice_get-map, slice_get-get_or, slice_get_within}
-use Rattle.gh_base.specs.declared.value.Answer.{Answer}
-use Rattle.std.specs.Option.{option_map}
-use Rattle.gh_coord.specs.declared.cycles.Cycle.{Cycle}
-use Rattle.gh_lines.specs.Text.{MakerStands, SweptCycle, answer_line, answers_by, credit_line, cycle_line, has_line, line_of_cycle, lines_from, answer_lines, live_line, outcome_lines}
-use Rattle.gh_world.specs.Runs.{swept_cycle}
+use Rattle.std.proofs.lemmas.List.{length-append, append-nil, map-append}
+use Rattle.gh_replay.proofs.Vocabulary.{AllByRecursion, Answer, answer_line, answer_lines, answers_by, credit_line, Cycle, cycle_line, flat_map, get_or-append_right, get_or_append_left, get_or_from_slice_get, has_line, IsReportOf, length-map, line_of_cycle, lines_from, live_line, MakerStands, nat_tests, option_map, outcome_lines, Program, range_with_len, ReportState, rows_from, rows_of, slice_get-get_or, slice_get-map, slice_get_within, swept_cycle, SweptCycle, take_more}
 use Rattle.gh_world.specs.declared.event.Totals.{Totals}
-use Rattle.gh_script.specs.Program.{Program}
 use Rattle.gh_replay.specs.declared.row.Row.{Row}
-use Rattle.gh_replay.specs.Report.{IsReportOf, ReportState, rows_from, rows_of}
 use Rattle.gh_replay.proofs.Owning.{answers_stand}
 
 -- ---- the lines of rows

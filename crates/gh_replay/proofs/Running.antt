@@ -1,16 +1,9 @@
 -- What a run has so far, and what it has when the world is done.
 use Rattle.std.proofs.Common.{◌≡◌, ℕ, ◌+◌, ◌%◌, ◌^◌, ◌<◌, ◌≤◌, true, false, List, [], ◌∷◌, ◌++◌, length, map, refl, sym, ◌∙◌, ap, subst, Some, arith, length-append}
-use Rattle.gh_base.specs.Cells.{seats_of}
+use Rattle.gh_replay.proofs.Vocabulary.{actor_after, actor_of, actors_of, AllDone, Answer, answer_in, answered_in, answered_of, answers_given, Appends, Coordinating, drawn_of, ended_after, Entry, Event, event_of, EveryRunIsExplained, is_done, IsAfter, IsExplained, IsReplayed, IsRun, IsScheduled, IsUnfinished, Layout, layout_of, LaysOut, marked_by, marks_at, moved, now_in, Op, opening, Outcome, outcome_by, Plan, points_of, PointsAreStatements, Program, RanWithinBudget, reached_in, script_of, seats_of, seen_of, setting_of, spent_after, Standing, stands_in, State, StatementsAreEnough, swept_cycle, total_of, WellFormed, who, with_goroutine}
 use Rattle.gh_coord.specs.Keeping.{last_kept}
-use Rattle.gh_world.specs.declared.event.Event.{Event}
-use Rattle.gh_world.specs.declared.event.Event.TheVariants as event
-use Rattle.gh_world.specs.Schedule.{ended_after}
-use Rattle.gh_replay.specs.Places.{RanWithinBudget, seen_of}
-use Rattle.gh_replay.proofs.Vocabulary.{actor_after, actors_of, AllDone, Answer, answer_in, answered_in, answered_of, answers_given, Appends, Coordinating, drawn_of, Entry, EveryRunIsExplained, is_done, IsAfter, IsExplained, IsReplayed, IsRun, IsScheduled, IsUnfinished, Layout, layout_of, LaysOut, marked_by, moved, now_in, Op, opening, Outcome, outcome_by, Plan, Program, reached_in, script_of, setting_of, spent_after, Standing, stands_in, State, swept_cycle, total_of, WellFormed, who, with_goroutine}
 use Rattle.gh_world.specs.Below.{spent_at}
-use Rattle.gh_world.specs.Points.{PointsAreStatements, StatementsAreEnough}
 use Rattle.gh_lists.specs.Wants.{total}
-use Rattle.gh_world.specs.World.{actor_of, event_of, marks_at, points_of}
 use Rattle.gh_lists.specs.Sums.{total_same}
 use Rattle.gh_replay.proofs.Along.{are_along, comes_to, RunsBeside}
 use Rattle.gh_replay.proofs.Answering.{none_answered, one_answered}
@@ -85,7 +78,7 @@ roomy w plan budget left s answers few m =
     omega (arith, many, few)
 
 -- one answer more has room
-pub room_for : (v : State) (happened : Event) (plan : Plan) (budget rest : ℕ) (after : Standing) (answers : List (ℕ × Answer)) (room total g n : ℕ) (a : Answer) → Midway v plan budget rest after (answers ++ answered_in happened) → answered_of v ≤ total_of (script_of v) → happened ≡ event.Answered g n a → total_of (script_of v) ≡ total → total ≤ room → length answers < room
+pub room_for : (v : State) (happened : Event) (plan : Plan) (budget rest : ℕ) (after : Standing) (answers : List (ℕ × Answer)) (room total g n : ℕ) (a : Answer) → Midway v plan budget rest after (answers ++ answered_in happened) → answered_of v ≤ total_of (script_of v) → happened ≡ Event.Answered g n a → total_of (script_of v) ≡ total → total ≤ room → length answers < room
 room_for v happened plan budget rest after answers room total g n a m sound is same few =
     let within : length (answers ++ answered_in happened) ≤ total_of (script_of v) = roomy v plan budget rest after (answers ++ answered_in happened) sound m in
     let grown : length (answers ++ answered_in happened) ≡ length answers + 1 = ap (λ (e : Event). length (answers ++ answered_in e)) is ∙ length-append answers ((g, a) ∷ []) in

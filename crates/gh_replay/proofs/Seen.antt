@@ -1,26 +1,9 @@
 -- What a world shows of its actors is what they have come to in whatever list the world is the state of.
-use Rattle.std.proofs.Common.{◌≡◌, ℕ, ◌+◌, ◌-◌, ◌<◌, ◌≤◌, List, [], length, Option, Some, None, sym, ap, ◌∙◌, arith}
-use Rattle.std.specs.Prelude.{slice_get, sum_by}
-use Rattle.std.specs.Option.{option_to_list}
-use Rattle.std.proofs.lemmas.Option.{slice_get_past, slice_get_within}
-use Rattle.gh_base.specs.declared.operation.Op.{Op}
-use Rattle.gh_base.specs.declared.layout.Layout.{Layout}
-use Rattle.gh_base.specs.declared.machine.Entry.{Entry}
-use Rattle.gh_base.specs.Cells.{seats_of}
-use Rattle.gh_base.specs.Lists.{started}
-use Rattle.gh_coord.specs.declared.cycles.Cycle.{Cycle}
+use Rattle.std.proofs.Common.{◌≡◌, ℕ, ◌+◌, ◌-◌, ◌<◌, ◌≤◌, List, [], length, Option, Some, None, sym, ap, ◌∙◌, arith, slice_get, sum_by}
+use Rattle.gh_replay.proofs.Vocabulary.{Actor, actor_after, actors_of, answered_in, Cycle, done_or, Entry, event_by, has_ended, IsAfter, Layout, layout_of, Leads, marks_at, marks_by, marks_of, Op, option_to_list, Program, reached_in, Runner, runner_or, script_of, seats_of, seen_of, setting_of, slice_get_past, slice_get_within, started, State, told_event, worker_or}
 use Rattle.gh_coord.specs.Listing as coord
 use Rattle.gh_coord.specs.Stopping.{acks_of}
-use Rattle.gh_script.specs.Program.{Program}
 use Rattle.gh_worker.specs.Listing as worker
-use Rattle.gh_lists.specs.declared.handshake.Actor.{Actor}
-use Rattle.gh_lists.specs.declared.handshake.Actor.TheVariants.{Leads}
-use Rattle.gh_world.specs.declared.runner.Runner.{Runner}
-use Rattle.gh_world.specs.After.{IsAfter}
-use Rattle.gh_world.specs.Schedule.{has_ended}
-use Rattle.gh_world.specs.World.{actor_after, actors_of, answered_in, done_or, event_by, layout_of, marks_at, marks_by, marks_of, runner_or, script_of, setting_of, State, told_event, worker_or}
-use Rattle.gh_replay.specs.Places.{seen_of}
-use Rattle.gh_replay.specs.Scheduled.{reached_in}
 use Rattle.gh_replay.proofs.Choosing.{Agree}
 
 -- ---- each actor is as it is after the list

@@ -1,13 +1,8 @@
 -- The answers of a goroutine that are still to be taken.
-use Rattle.std.proofs.Common.{◌≡◌, ℕ, ◌+◌, ◌<◌, Bool, true, false, cond, eqb, List, [], ◌∷◌, ◌++◌, length, drop, get_or, replicate, Some, refl, sym, ap, ◌∙◌, arith, inl, inr}
-use Rattle.std.specs.Prelude.{slice_get}
-use Rattle.std.proofs.lemmas.Bool.{cases_lt, eq-eqb, eqb-true}
-use Rattle.std.proofs.lemmas.Bool.Decides.{nat_tests}
-use Rattle.std.proofs.Math.ListN.{set}
-use Rattle.std.proofs.lemmas.List.{drop_more, get_or-replicate, get_or-set_other, get_or-set_same, get_or_past, length-replicate}
-use Rattle.std.proofs.lemmas.Option.{get_or_from_slice_get, slice_get_within}
-use Rattle.gh_base.specs.declared.value.Answer.{Answer}
-use Rattle.gh_lines.specs.Text.{answers_by}
+use Rattle.std.proofs.Common.{◌≡◌, ℕ, ◌+◌, ◌<◌, Bool, true, false, cond, eqb, List, [], ◌∷◌, ◌++◌, length, drop, get_or, replicate, Some, refl, sym, ap, ◌∙◌, arith, inl, inr, slice_get}
+use Rattle.std.proofs.lemmas.Bool.{eq-eqb, eqb-true}
+use Rattle.std.proofs.lemmas.List.{get_or-set_other, get_or-set_same}
+use Rattle.gh_replay.proofs.Vocabulary.{Answer, answers_by, cases_lt, drop_more, get_or-replicate, get_or_from_slice_get, get_or_past, length-replicate, nat_tests, set, slice_get_within}
 
 module _ (g : ℕ) (xs : List (ℕ × Answer)) (i : ℕ) (x : ℕ × Answer) (is : slice_get xs i ≡ Some x) where
   from_here : drop i xs ≡ x ∷ drop (i + 1) xs

@@ -1,15 +1,11 @@
 -- What a run is to the heap that never frees beside it.
 use Rattle.std.specs.Prelude.{◌≡◌, ℕ, List, drop, map, length, slice_index, Some}
-use Rattle.gh_base.specs.declared.value.Answer.{Answer}
-use Rattle.gh_lines.specs.Text.{answers_by, Outcome}
+use Rattle.gh_replay.specs.Vocabulary.{acted_by, Answer, answers_by, counts_of, ever_of, Lists, Outcome, Program}
 use Rattle.gh_model.specs.Answers.{AllAnswer}
 use Rattle.gh_model.specs.Ever.{Ever, opening_ever}
-use Rattle.gh_script.specs.Program.{Program}
-use Rattle.gh_ever.specs.Lists.{counts_of, ever_of, Lists}
 use Rattle.gh_lists.specs.Order.{Answered}
 use Rattle.gh_lists.specs.Order as run
 use Rattle.gh_world.specs.Points.{answers_of, ever_along, op_at_point, ops_of, with_ends}
-use Rattle.gh_world.specs.Runs.{acted_by}
 use Rattle.gh_world.specs.Turns.{count_of}
 use Rattle.gh_replay.specs.declared.check.Told.{Told}
 use Rattle.gh_replay.specs.Plan.{Plan}

@@ -6,3 +6,4 @@ pub mod Replayed
 pub mod Report
 pub mod Check
 pub mod Places
+pub mod Vocabulary

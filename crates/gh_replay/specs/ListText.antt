@@ -1,11 +1,8 @@
 -- How the list of a schedule is spelled: items, separated by single commas.
 use Rattle.std.specs.Prelude.{ℕ, ◌+◌, ◌^◌, ◌==◌, ◌&&◌, ◌||◌, Bool, if◌then◌else◌, nat_le, List, [], ◌∷◌, length, take, drop, Option, Some, None, option_map, option_and_then, slice_get}
-use Rattle.std.specs.List.{position_or_len, slice_split}
+use Rattle.gh_replay.specs.Vocabulary.{Marks, position_or_len, slice_split, Steps, Turn, Until, Without}
 use Rattle.gh_script.specs.Words.{number_spelled}
 use Rattle.gh_replay.specs.declared.list.TheConstants.{MOST_ITEMS}
-use Rattle.gh_replay.specs.declared.schedule.Turn.{Turn}
-use Rattle.gh_replay.specs.declared.schedule.Until.{Until}
-use Rattle.gh_replay.specs.declared.schedule.Until.TheVariants.{Steps, Marks, Without}
 
 abbrev pub is_comma : ℕ → Bool
 is_comma c = c == 44

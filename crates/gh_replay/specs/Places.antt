@@ -1,12 +1,8 @@
 -- What the code knows of a world and of where a schedule stands.
 use Rattle.std.specs.Prelude.{◌≡◌, ℕ, ◌<◌, ◌≤◌, true, false, List, [], drop, length, IfSome, None}
+use Rattle.gh_replay.specs.Vocabulary.{actors_of, AllDone, Answer, answers_given, Entry, is_done, layout_of, marks_of, Op, script_of, State}
 use Rattle.gh_base.specs.Cells.{seats_of}
-use Rattle.gh_base.specs.declared.operation.Op.{Op}
-use Rattle.gh_base.specs.declared.value.Answer.{Answer}
-use Rattle.gh_base.specs.declared.machine.Entry.{Entry}
 use Rattle.gh_world.specs.After.{IsAfter}
-use Rattle.gh_world.specs.Runs.{answers_given}
-use Rattle.gh_world.specs.World.{actors_of, AllDone, is_done, layout_of, marks_of, script_of, State}
 use Rattle.gh_replay.specs.declared.place.Place.{Place}
 use Rattle.gh_replay.specs.Plan.{Plan}
 use Rattle.gh_replay.specs.Scheduled.{IsScheduled}

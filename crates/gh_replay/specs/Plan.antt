@@ -1,6 +1,6 @@
 -- What a schedule says.
 use Rattle.std.specs.Prelude.{ℕ, List, [], Option, None}
-use Rattle.gh_replay.specs.declared.schedule.Turn.{Turn}
+use Rattle.gh_replay.specs.Vocabulary.{Turn}
 
 -- the items of its list, and the seed for what comes behind them
 pub record Plan : Type 0 where

@@ -1,13 +1,6 @@
 -- What a replay answers, and what stands where it ran out of turns.
 use Rattle.std.specs.Prelude.{◌≡◌, ℕ, ◌<◌, ◌≤◌, ◌⊎◌, false, List, length}
-use Rattle.gh_base.specs.declared.operation.Op.{Op}
-use Rattle.gh_base.specs.declared.layout.Layout.{Layout}
-use Rattle.gh_base.specs.declared.machine.Entry.{Entry}
-use Rattle.gh_lines.specs.Text.{Outcome}
-use Rattle.gh_script.specs.Program.{Program, WellFormed}
-use Rattle.gh_world.specs.Runs.{IsExplained, IsRunSoFar}
-use Rattle.gh_world.specs.Schedule.{ended_after}
-use Rattle.gh_world.specs.World.{LaysOut, setting_of}
+use Rattle.gh_replay.specs.Vocabulary.{ended_after, Entry, IsExplained, IsRunSoFar, Layout, LaysOut, Op, Outcome, Program, setting_of, WellFormed}
 use Rattle.gh_replay.specs.Plan.{Plan}
 use Rattle.gh_replay.specs.Scheduled.{IsScheduled}
 

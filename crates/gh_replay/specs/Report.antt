@@ -1,15 +1,7 @@
 -- What a replay reports: what its run comes to, and in which order the lines stand.
 use Rattle.std.specs.Prelude.{◌≡◌, ℕ, ◌+◌, if◌then◌else◌, Bool, List, [], ◌∷◌, ◌++◌, length, Option, is_some}
-use Rattle.std.specs.List.{concat, flat_map, range_with_len}
-use Rattle.gh_base.specs.declared.layout.Layout.{Layout}
-use Rattle.gh_base.specs.declared.machine.Entry.{Entry}
-use Rattle.gh_base.specs.declared.operation.Op.{Op}
-use Rattle.gh_base.specs.declared.value.Answer.{Answer}
-use Rattle.gh_ever.specs.Lists.{Lists}
-use Rattle.gh_lines.specs.Text.{agrees_line, answers_by, has_line, Outcome, outcome_lines}
-use Rattle.gh_script.specs.Program.{Program}
+use Rattle.gh_replay.specs.Vocabulary.{agrees_line, Answer, answers_by, concat, Entry, flat_map, has_line, IsExplained, Layout, Lists, Op, Outcome, outcome_lines, Program, range_with_len}
 use Rattle.gh_replay.specs.declared.row.Row.{Row}
-use Rattle.gh_world.specs.Runs.{IsExplained}
 
 -- what a whole run comes to, how many goroutines the script has, and the heap that never frees, where that was run beside it
 pub record ReportState : Type 0 where

@@ -1,13 +1,6 @@
 -- The lists of steps that a schedule gives.
 use Rattle.std.specs.Prelude.{◌≡◌, ◌↔◌, ℕ, List, [], ◌∷◌, Some}
-use Rattle.gh_base.specs.declared.operation.Op.{Op}
-use Rattle.gh_base.specs.declared.layout.Layout.{Layout}
-use Rattle.gh_base.specs.declared.machine.Entry.{Entry}
-use Rattle.gh_script.specs.Program.{Program}
-use Rattle.gh_world.specs.Schedule.{ended_after, IsInTurn}
-use Rattle.gh_world.specs.World.{actor_after, marks_at, marks_by, setting_of}
-use Rattle.gh_replay.specs.declared.schedule.Turn.{Turn}
-use Rattle.gh_replay.specs.declared.schedule.Until.TheVariants.{Without}
+use Rattle.gh_replay.specs.Vocabulary.{actor_after, ended_after, Entry, IsInTurn, Layout, marks_at, marks_by, Op, Program, setting_of, Turn, Without}
 use Rattle.gh_replay.specs.Plan.{no_plan, Plan}
 use Rattle.gh_replay.specs.Standing.{ActorsSoFar, moved, opening, Standing, to_come, who}
 

@@ -1,11 +1,7 @@
 -- Where a schedule stands among the steps of a run, and who steps next.
 use Rattle.std.specs.Prelude.{ℕ, ◌-◌, ◌%◌, ◌||◌, ◌==◌, Bool, not, if◌then◌else◌, nat_le, List, [], ◌∷◌, length, Option, Some, None, option_map, slice_get}
-use Rattle.std.specs.List.{filter, range_with_len}
+use Rattle.gh_replay.specs.Vocabulary.{behind, filter, Marks, range_with_len, Steps, Turn, turn_from, Until, Without}
 use Rattle.rand_xoshiro.specs.SplitMix64.{mix_u64}
-use Rattle.gh_world.specs.Schedule.{behind, turn_from}
-use Rattle.gh_replay.specs.declared.schedule.Turn.{Turn}
-use Rattle.gh_replay.specs.declared.schedule.Until.{Until}
-use Rattle.gh_replay.specs.declared.schedule.Until.TheVariants.{Steps, Marks, Without}
 use Rattle.gh_replay.specs.Plan.{Plan}
 
 -- what the actors have come to: how many there are, which of them have ended, and the marks of each

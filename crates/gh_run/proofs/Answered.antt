@@ -1,22 +1,8 @@
 -- What all jobs were answered, goroutine by goroutine.
-use Rattle.std.proofs.Common.{◌≡◌, ℕ, ◌+◌, ◌%◌, ◌<◌, ◌≤◌, List, [], length, take, Some, sym, ap, subst, ◌∙◌, arith}
-use Rattle.std.specs.Prelude.{slice_get, sum_by}
-use Rattle.std.proofs.lemmas.List.{get_or_past}
-use Rattle.std.proofs.lemmas.List.Sums.{sum_by_more, sum_by-take-le}
-use Rattle.std.proofs.lemmas.Nat.{mod_below}
-use Rattle.gh_base.specs.declared.value.Answer.{Answer}
-use Rattle.gh_lines.specs.Text.{answers_by}
-use Rattle.gh_run.specs.declared.job.HeapJob.{HeapJob}
-use Rattle.gh_run.specs.Jobs.{AreDoneOf, IsDoneOf, WhichJob}
+use Rattle.std.proofs.Common.{◌≡◌, ℕ, ◌+◌, ◌%◌, ◌<◌, ◌≤◌, List, [], length, take, Some, sym, ap, subst, ◌∙◌, arith, slice_get, sum_by}
+use Rattle.gh_run.proofs.Vocabulary.{Answer, answers_by, AreDoneOf, arena_of, begun_in, get_or_past, given_of, Heap, HeapJob, IsDoneOf, IsHeapOf, mod_below, no_goroutine, number_of, own_of, plan_of, Program, setting, statements_in, statements_of, sum_by-take-le, sum_by_more, total_of, turns_of, WhichJob}
 use Rattle.gh_run.proofs.Goroutines.{few_answers}
 use Rattle.gh_run.proofs.Places.{each_first, none_left}
-use Rattle.gh_script.specs.Program.{no_goroutine, Program, statements_in, statements_of}
-use Rattle.gh_shared.specs.declared.heap.Heap.{Heap}
-use Rattle.gh_shared.specs.Handles.{IsHeapOf, number_of, own_of, plan_of}
-use Rattle.gh_lists.specs.Order.{begun_in}
-use Rattle.gh_lists.specs.Processors.{arena_of, given_of}
-use Rattle.gh_world.specs.Turns.{total_of, turns_of}
-use Rattle.gh_actor.specs.Plans.{setting}
 
 module _ {G : Type 0} (p : Program) (heap : Heap) (done : List (HeapJob G)) where
   -- what the job of a goroutine's processor was answered of it

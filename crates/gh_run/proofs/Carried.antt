@@ -1,20 +1,9 @@
 -- The handles of jobs that have ended, gathered into one.
-use Rattle.std.proofs.Common.{◌≡◌, ◌⊎◌, inl, inr, ℕ, zero, suc, ◌+◌, ◌<◌, ◌≤◌, ◌==◌, Bool, true, false, ◌||◌, if◌then◌else◌, eq-eqb, List, [], ◌∷◌, ◌++◌, length, length-append, Some, refl, sym, ap, subst, ◌∙◌, arith}
-use Rattle.std.specs.Prelude.{slice_get}
+use Rattle.std.proofs.Common.{◌≡◌, ◌⊎◌, inl, inr, ℕ, zero, suc, ◌+◌, ◌<◌, ◌≤◌, ◌==◌, Bool, true, false, ◌||◌, if◌then◌else◌, eq-eqb, List, [], ◌∷◌, ◌++◌, length, length-append, Some, refl, sym, ap, subst, ◌∙◌, arith, slice_get}
 use Rattle.std.proofs.lemmas.Bool.{cases_lt}
-use Rattle.std.proofs.lemmas.Bool.Decides.{nat_tests}
 use Rattle.std.proofs.lemmas.Option.{slice_get_within}
-use Rattle.gh_base.specs.Cells.{seats_of}
-use Rattle.gh_base.specs.Lists.{by}
-use Rattle.gh_run.specs.declared.job.HeapJob.{HeapJob}
-use Rattle.gh_run.specs.Jobs.{EachFrom, IsDoneOf, WhichJob}
+use Rattle.gh_run.proofs.Vocabulary.{by, carries_of, count_among, EachFrom, Gathered, Handle, Heap, HeapJob, IsDoneOf, IsHandleOf, nat_tests, number_of, own_of, Program, seats_of, view_of, WhichJob}
 use Rattle.gh_run.proofs.Places.{each_first, each_of, each_rest}
-use Rattle.gh_script.specs.Program.{Program}
-use Rattle.gh_shared.specs.declared.handle.Handle.{Handle}
-use Rattle.gh_shared.specs.declared.heap.Heap.{Heap}
-use Rattle.gh_shared.specs.Calls.{Gathered}
-use Rattle.gh_shared.specs.Handles.{carries_of, IsHandleOf, number_of, own_of, view_of}
-use Rattle.gh_shared.specs.Shown.{count_among}
 use Rattle.gh_table.specs.Views.{has}
 
 -- what a number counts where it is one of a single one
@@ -52,10 +41,6 @@ module _ {G : Type 0} (p : Program) (heap : Heap) (done : List (HeapJob G)) wher
     pub many : carries_of h ≡ k + 1
     pub others : (a : ℕ) → k ≤ a → suc a < n → has (view_of h).actors a ≡ false
     pub own : (a : ℕ) (j : HeapJob G) → a < n → (a < k) ⊎ (suc a ≡ n) → slice_get done a ≡ Some j → (has (view_of h).actors a ≡ true) × (by a (view_of h).log ≡ own_of j.handle)
-
-or_none : (b : Bool) → (b || false) ≡ b
-or_none true = refl
-or_none false = refl
 
 or_all : (b c : Bool) → b ≡ true → (b || c) ≡ true
 or_all true c e = refl

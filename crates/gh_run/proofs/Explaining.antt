@@ -1,67 +1,27 @@
 -- What jobs have come to is what a whole run of the script comes to.
-use Rattle.std.proofs.Common.{◌≡◌, ℕ, ◌%◌, ◌<◌, nat_lt, Bool, true, false, cond, eqb, eq-eqb, List, [], ◌∷◌, ◌++◌, reverse, Option, Some, None, refl, sym, ap, subst, ◌∙◌, arith}
-use Rattle.std.specs.Prelude.{slice_get}
-use Rattle.std.specs.List.{filter}
-use Rattle.std.specs.Option.{option_to_list}
+use Rattle.std.proofs.Common.{◌≡◌, ℕ, ◌%◌, ◌<◌, nat_lt, Bool, true, false, cond, eqb, eq-eqb, List, [], ◌∷◌, ◌++◌, reverse, Option, Some, None, refl, sym, ap, subst, ◌∙◌, arith, slice_get}
 use Rattle.std.proofs.lemmas.Bool.{eqb-true}
-use Rattle.std.proofs.lemmas.Nat.{mod_below}
-use Rattle.gh_base.specs.declared.machine.Entry.{Entry}
-use Rattle.gh_base.specs.declared.operation.Op.{Op}
-use Rattle.gh_base.specs.declared.value.Answer.{Answer}
-use Rattle.gh_base.specs.Cells.{seats_of}
-use Rattle.gh_base.specs.Lists.{by, Legal, started, state_of}
-use Rattle.gh_base.specs.Orders.{given_by}
+use Rattle.gh_run.proofs.Vocabulary.{acks_of, Actor, Answer, answers_at, answers_by, answers_given, answers_in, AreDoneOf, begun_in, by, Coordinating, deeds, ended_at, ended_of, Entry, EveryRunIsExplained, filter, given_at, given_by, gives_at, Handle, has_left_at, has_point, Heap, HeapActor, HeapJob, is_busy_at, is_leaving, is_of_seat, is_processor, IsAtEnd, IsClosedAfter, IsDoneOf, IsHeapOf, IsRun, IsRunByThreads, LaysOut, Leads, Legal, machine_actor, machine_of, Marks, mod_below, most_cycles, number_of, OfItsOwn, Op, option_to_list, outcome_by, own_of, pacing_of, plan_of, Planned, Processor, processor_kind, Program, Runs, seats_of, setting, spent_after, started, state_of, Task, told, told_in_order, turns_of, View, view_of, WellFormed, WhichJob}
 use Rattle.gh_coord.specs.Listing as coord
-use Rattle.gh_coord.specs.Listing.{Coordinating}
 use Rattle.gh_coord.specs.Stays.{cycle_room_stays}
-use Rattle.gh_coord.specs.Stopping.{acks_of}
-use Rattle.gh_lines.specs.Text.{answers_by}
-use Rattle.gh_mutator.specs.Processing.{Processor}
-use Rattle.gh_mutator.specs.declared.task.Task.{Task}
-use Rattle.gh_mutator.specs.declared.task.Task.TheVariants as task
-use Rattle.gh_mutator.specs.Deeds.{deeds, given_at, has_point, processor_kind}
-use Rattle.gh_mutator.specs.Listing.{gives_at, is_busy_at}
 use Rattle.gh_mutator.specs.Processor.{opening_processor}
-use Rattle.gh_mutator.specs.Serving.{has_left_at, is_leaving}
-use Rattle.gh_run.specs.declared.job.HeapJob.{HeapJob}
-use Rattle.gh_run.specs.Jobs.{answers_in, AreDoneOf, IsAtEnd, IsDoneOf, told, told_in_order, WhichJob}
-use Rattle.gh_run.specs.Told.{IsRunByThreads}
 use Rattle.gh_run.proofs.Places.{each_first, there}
-use Rattle.gh_script.specs.Program.{Program, WellFormed}
-use Rattle.gh_shared.specs.declared.handle.Handle.{Handle}
-use Rattle.gh_shared.specs.declared.heap.Heap.{Heap}
-use Rattle.gh_actor.specs.declared.actor.HeapActor.{HeapActor}
-use Rattle.gh_actor.specs.declared.actor.HeapActor.TheVariants.{Leads, Marks, Runs}
-use Rattle.gh_shared.specs.Calls.{IsClosedAfter}
-use Rattle.gh_shared.specs.Handles.{ended_at, ended_of, IsHeapOf, machine_of, number_of, own_of, plan_of, view_of}
-use Rattle.gh_actor.specs.Machines.{machine_actor}
-use Rattle.gh_actor.specs.Plans.{Planned, setting}
-use Rattle.gh_shared.proofs.Ready.{OfItsOwn}
-use Rattle.gh_table.specs.declared.plan.View.{View}
 use Rattle.gh_worker.specs.Listing as worker
-use Rattle.gh_lists.specs.declared.handshake.Actor.{Actor}
-use Rattle.gh_lists.specs.declared.handshake.Actor.TheVariants as actor
 use Rattle.gh_lists.specs.Handshake.{actor_takes, start}
-use Rattle.gh_lists.specs.Order.{begun_in}
-use Rattle.gh_world.specs.Runs.{answers_at, answers_given, EveryRunIsExplained, IsRun, outcome_by, spent_after}
 use Rattle.gh_world.specs.Schedule.{has_ended}
-use Rattle.gh_world.specs.Turns.{is_of_seat, turns_of}
-use Rattle.gh_world.specs.Wishes.{most_cycles}
-use Rattle.gh_world.specs.World.{LaysOut, pacing_of}
 use Rattle.gh_world.proofs.OneStep.{lapsed_at_end}
 use Rattle.gh_explained.proofs.Explained.Told.{rests_told, told_of}
-use Rattle.gh_world.proofs.Resting.{is_processor}
 
 -- ---- who has ended
 
 left_then : (t : Task) → is_busy_at t ≡ false → is_leaving t ≡ true → has_left_at t ≡ true
-left_then task.Left idle e = refl
-left_then (task.Leave x) idle e = absurd cc
+left_then Task.Left idle e = refl
+left_then (Task.Leave x) idle e = absurd cc
 left_then _ idle e = absurd cc
 
 left_idle : (t : Task) → has_left_at t ≡ true → is_busy_at t ≡ false
-left_idle task.Left e = refl
-left_idle task.Idle e = refl
+left_idle Task.Left e = refl
+left_idle Task.Idle e = refl
 left_idle _ e = absurd cc
 
 ended_has : (h : Handle) → ended_of h ≡ true → has_ended (machine_actor (machine_of h)) ≡ true
@@ -101,7 +61,7 @@ module _ (q : Planned) (law : OfItsOwn) (a : ℕ) (lt : a < q.layout.procs) wher
 
   at_own : (es : List (Entry Op)) → at es ≡ at (by a es)
   at_own es =
-      let same : actor.Runs (at es) ≡ actor.Runs (at (by a es)) = sym (is_processor q.script q.layout a lt es) ∙ law (setting q).kind a es ∙ is_processor q.script q.layout a lt (by a es) in
+      let same : Actor.Runs (at es) ≡ Actor.Runs (at (by a es)) = sym (is_processor q.script q.layout a lt es) ∙ law (setting q).kind a es ∙ is_processor q.script q.layout a lt (by a es) in
       cc
 
   -- what an entry gives, whose processor is this before it
@@ -133,25 +93,25 @@ module _ (q : Planned) (law : OfItsOwn) (a : ℕ) (lt : a < q.layout.procs) wher
 
 module _ (q : Planned) where
   abbrev Roomy : Actor → Type 0
-  Roomy x = (c : Coordinating) → x ≡ actor.Leads c → c.cycles.room ≡ most_cycles q.script
+  Roomy x = (c : Coordinating) → x ≡ Actor.Leads c → c.cycles.room ≡ most_cycles q.script
 
   abbrev opening : ℕ → Coordinating
   opening a = coord.opening q.layout a q.script.settings.gogc q.script.settings.minheap (most_cycles q.script)
 
   opens_roomy : (a : ℕ) → Roomy (start q.layout (pacing_of q.script) a)
   opens_roomy a = go (nat_lt a q.layout.procs) (nat_lt a (acks_of q.layout)) where
-    go : (b c : Bool) → Roomy (cond b (actor.Runs (opening_processor a)) (cond c (actor.Marks (worker.opening a)) (actor.Leads (opening a))))
+    go : (b c : Bool) → Roomy (cond b (Actor.Runs (opening_processor a)) (cond c (Actor.Marks (worker.opening a)) (Actor.Leads (opening a))))
     go true c d e = absurd cc
     go false true d e = absurd cc
     go false false d e = let same : opening a ≡ d = cc in ap (λ (x : Coordinating). x.cycles.room) (sym same)
 
   takes_roomy : (x : Actor) (o : Option Op) (found : ℕ) → Roomy x → Roomy (actor_takes q.script.shapes q.layout (started (setting q).kind o x) found)
-  takes_roomy (actor.Runs m) None found is c e = absurd cc
-  takes_roomy (actor.Runs m) (Some o) found is c e = absurd cc
-  takes_roomy (actor.Marks w) None found is c e = absurd cc
-  takes_roomy (actor.Marks w) (Some o) found is c e = absurd cc
-  takes_roomy (actor.Leads d) None found is c e = let same : coord.goes q.layout d found ≡ c = cc in ap (λ (x : Coordinating). x.cycles.room) (sym same) ∙ cycle_room_stays q.layout d found ∙ is d refl
-  takes_roomy (actor.Leads d) (Some o) found is c e = let same : coord.goes q.layout d found ≡ c = cc in ap (λ (x : Coordinating). x.cycles.room) (sym same) ∙ cycle_room_stays q.layout d found ∙ is d refl
+  takes_roomy (Actor.Runs m) None found is c e = absurd cc
+  takes_roomy (Actor.Runs m) (Some o) found is c e = absurd cc
+  takes_roomy (Actor.Marks w) None found is c e = absurd cc
+  takes_roomy (Actor.Marks w) (Some o) found is c e = absurd cc
+  takes_roomy (Actor.Leads d) None found is c e = let same : coord.goes q.layout d found ≡ c = cc in ap (λ (x : Coordinating). x.cycles.room) (sym same) ∙ cycle_room_stays q.layout d found ∙ is d refl
+  takes_roomy (Actor.Leads d) (Some o) found is c e = let same : coord.goes q.layout d found ≡ c = cc in ap (λ (x : Coordinating). x.cycles.room) (sym same) ∙ cycle_room_stays q.layout d found ∙ is d refl
 
   roomy_after : (a : ℕ) (es : List (Entry Op)) → Roomy (state_of (setting q).kind a es)
   roomy_after a [] = opens_roomy a

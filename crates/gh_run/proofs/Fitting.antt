@@ -1,30 +1,6 @@
 -- What is due among a processor's turns may begin by its handle.
 use Rattle.std.proofs.Common.{◌≡◌, ℕ, zero, suc, ◌<◌, ◌≤◌, ◌%◌, ◌==◌, nat_lt, Bool, true, false, not, ◌&&◌, ◌||◌, length, List, Some, refl, sym, ap, subst, ◌∙◌, arith}
-use Rattle.std.proofs.lemmas.Bool.Decides.{nat_tests}
-use Rattle.gh_base.specs.declared.layout.Layout.{Layout}
-use Rattle.gh_base.specs.declared.machine.Entry.{Entry}
-use Rattle.gh_base.specs.declared.operation.Op.{Op}
-use Rattle.gh_base.specs.declared.operation.Op.TheVariants as op
-use Rattle.gh_base.specs.declared.value.Answer.{Answer}
-use Rattle.gh_mutator.specs.Deeds.{has_point}
-use Rattle.gh_run.specs.Jobs.{IsBetweenTurns}
-use Rattle.gh_script.specs.Program.{Program, WellFormed}
-use Rattle.gh_shared.specs.declared.handle.Handle.{Handle}
-use Rattle.gh_shared.specs.declared.heap.Heap.{Heap}
-use Rattle.gh_actor.specs.declared.actor.HeapActor.{HeapActor}
-use Rattle.gh_shared.specs.Calls.{Fits, May, RunsIt}
-use Rattle.gh_shared.specs.Handles.{machine_of, number_of, own_of, plan_of, room_at, view_of}
-use Rattle.gh_actor.specs.Plans.{Planned}
-use Rattle.gh_shared.specs.Shown.{left_by, runs_by}
-use Rattle.gh_world.specs.declared.progress.Progress.{Progress}
-use Rattle.gh_world.specs.declared.turns.Next.{Next}
-use Rattle.gh_world.specs.declared.turns.Next.TheVariants as next
-use Rattle.gh_world.specs.Due.{FitsOwnEntries, WhatIsDueFits}
-use Rattle.gh_lists.specs.Order.{ended_in, goroutine_of}
-use Rattle.gh_lists.specs.Processors.{all_ended, arena_of, asked_by}
-use Rattle.gh_world.specs.Turns.{is_run_due, leave_is_begun, op_due}
-use Rattle.gh_world.specs.Wishes.{wishes_of}
-use Rattle.gh_world.specs.World.{LaysOut}
+use Rattle.gh_run.proofs.Vocabulary.{all_ended, Answer, arena_of, asked_by, ended_in, Entry, Fits, FitsOwnEntries, goroutine_of, Handle, has_point, Heap, HeapActor, is_run_due, IsBetweenTurns, Layout, LaysOut, leave_is_begun, left_by, machine_of, May, nat_tests, Next, number_of, Op, op_due, own_of, plan_of, Planned, Program, Progress, room_at, runs_by, RunsIt, view_of, WellFormed, WhatIsDueFits, wishes_of}
 use Rattle.gh_lists.specs.Beginning.{both}
 
 less : (i n : ℕ) → nat_lt i n ≡ true → i < n
@@ -79,47 +55,47 @@ module _ (q : Planned) (a : ℕ) (x : HeapActor) (own : List (Entry Op)) where
     fits : Fits q a x own o
 
   begins : (o : Op) → FitsOwnEntries q.script L a own o → (has_point o ≡ true → 2 ≤ room_at x) → Begins o
-  begins (op.New g d t) f room =
+  begins (Op.New g d t) f room =
       let r = both _ (nat_lt t (length q.script.shapes)) f.ranged in let s = both _ (nat_lt d _) r.0 in
       record { runs = its_runs g s.0 f.its f.going; fits = (less d _ s.1, less t _ r.1, one_left g f.asking) }
-  begins (op.Load g d b k) f room =
+  begins (Op.Load g d b k) f room =
       let r = both _ (nat_lt b _) f.ranged in let s = both _ (nat_lt d _) r.0 in
       record { runs = its_runs g s.0 f.its f.going; fits = (less d _ s.1, less b _ r.1) }
-  begins (op.Store g b k v) f room =
+  begins (Op.Store g b k v) f room =
       let r = both _ (nat_lt v _) f.ranged in let s = both _ (nat_lt b _) r.0 in
       record { runs = its_runs g s.0 f.its f.going; fits = (less b _ s.1, less v _ r.1, room refl) }
-  begins (op.GetGlobal g d k) f room =
+  begins (Op.GetGlobal g d k) f room =
       let r = both _ (nat_lt k _) f.ranged in let s = both _ (nat_lt d _) r.0 in
       record { runs = its_runs g s.0 f.its f.going; fits = (less d _ s.1, less k _ r.1) }
-  begins (op.SetGlobal g k v) f room =
+  begins (Op.SetGlobal g k v) f room =
       let r = both _ (nat_lt v _) f.ranged in let s = both _ (nat_lt k _) r.0 in
       record { runs = its_runs g s.0 f.its f.going; fits = (less v _ r.1, less k _ s.1, room refl) }
-  begins (op.Int g d n) f room =
+  begins (Op.Int g d n) f room =
       let r = both _ (nat_lt d _) f.ranged in
       record { runs = its_runs g r.0 f.its f.going; fits = less d _ r.1 }
-  begins (op.Move g d s) f room =
+  begins (Op.Move g d s) f room =
       let r = both _ (nat_lt s _) f.ranged in let t = both _ (nat_lt d _) r.0 in
       record { runs = its_runs g t.0 f.its f.going; fits = (less d _ t.1, less s _ r.1) }
-  begins (op.Nil g d) f room =
+  begins (Op.Nil g d) f room =
       let r = both _ (nat_lt d _) f.ranged in
       record { runs = its_runs g r.0 f.its f.going; fits = less d _ r.1 }
-  begins (op.Gc g) f room = record { runs = its_runs g f.ranged f.its f.going; fits = one_left g f.asking }
-  begins op.Poll f room = record { runs = tt; fits = tt }
-  begins (op.End g) f room = record { runs = its_runs g f.ranged f.its f.going; fits = tt }
-  begins op.Leave f room = record { runs = tt; fits = none_runs f.leaving }
+  begins (Op.Gc g) f room = record { runs = its_runs g f.ranged f.its f.going; fits = one_left g f.asking }
+  begins Op.Poll f room = record { runs = tt; fits = tt }
+  begins (Op.End g) f room = record { runs = its_runs g f.ranged f.its f.going; fits = tt }
+  begins Op.Leave f room = record { runs = tt; fits = none_runs f.leaving }
 
 -- what is no poll and no leave comes behind a poll
 run_due : (p : Program) (n : Next) (o : Op) → op_due p n ≡ Some o → has_point o ≡ true → is_run_due n ≡ true
-run_due p (next.Poll r g) o due h = let same : op.Poll ≡ o = cc in absurd (let no : false ≡ true = ap has_point same ∙ h in cc)
-run_due p (next.Run r g) o due h = refl
-run_due p next.Leave o due h = let same : op.Leave ≡ o = cc in absurd (let no : false ≡ true = ap has_point same ∙ h in cc)
-run_due p next.Over o due h = absurd cc
+run_due p (Next.Poll r g) o due h = let same : Op.Poll ≡ o = cc in absurd (let no : false ≡ true = ap has_point same ∙ h in cc)
+run_due p (Next.Run r g) o due h = refl
+run_due p Next.Leave o due h = let same : Op.Leave ≡ o = cc in absurd (let no : false ≡ true = ap has_point same ∙ h in cc)
+run_due p Next.Over o due h = absurd cc
 
 pub going_on : (p : Program) (n : Next) (o : Op) → op_due p n ≡ Some o → leave_is_begun n ≡ false
-going_on p (next.Poll r g) o due = refl
-going_on p (next.Run r g) o due = refl
-going_on p next.Leave o due = refl
-going_on p next.Over o due = absurd cc
+going_on p (Next.Poll r g) o due = refl
+going_on p (Next.Run r g) o due = refl
+going_on p Next.Leave o due = refl
+going_on p Next.Over o due = absurd cc
 
 -- the processor may begin what is due
 pub due_may : (p : Program) (heap : Heap) (h : Handle) (t : Progress) (answers : List (ℕ × Answer)) (room : ℕ) (o : Op) → WhatIsDueFits → WellFormed p → IsBetweenTurns p heap h t answers room → op_due p t.next ≡ Some o → May heap h o
@@ -138,11 +114,11 @@ due_may p heap h t answers room o law formed b due =
 -- ---- what its caller asks for, one by one
 
 module _ (heap : Heap) (h : Handle) where
-  pub of_type : (g d t : ℕ) → May heap h (op.New g d t) → t < length (plan_of heap).script.shapes
+  pub of_type : (g d t : ℕ) → May heap h (Op.New g d t) → t < length (plan_of heap).script.shapes
   of_type g d t m = subst (λ (q : Planned). t < length q.script.shapes) m.going.of.plan m.fits.1
 
-  pub global_there : (g d k : ℕ) → May heap h (op.GetGlobal g d k) → k < (plan_of heap).layout.globals
+  pub global_there : (g d k : ℕ) → May heap h (Op.GetGlobal g d k) → k < (plan_of heap).layout.globals
   global_there g d k m = subst (λ (q : Planned). k < q.layout.globals) m.going.of.plan m.fits.1
 
-  pub global_set : (g k v : ℕ) → May heap h (op.SetGlobal g k v) → k < (plan_of heap).layout.globals
+  pub global_set : (g k v : ℕ) → May heap h (Op.SetGlobal g k v) → k < (plan_of heap).layout.globals
   global_set g k v m = subst (λ (q : Planned). k < q.layout.globals) m.going.of.plan m.fits.1

@@ -1,37 +1,15 @@
 -- What a processor has begun and was given, once an operation has run to its end.
-use Rattle.std.proofs.Common.{◌≡◌, ℕ, Bool, true, false, not, cond, eq-eqb, List, [], ◌∷◌, ◌++◌, Option, Some, None, refl, sym, ap, subst, ◌∙◌}
-use Rattle.std.specs.Prelude.{is_some}
-use Rattle.std.specs.Option.{option_to_list}
-use Rattle.gh_base.specs.declared.layout.Layout.{Layout}
-use Rattle.gh_base.specs.declared.machine.Entry.{Entry}
-use Rattle.gh_base.specs.declared.operation.Op.{Op}
+use Rattle.std.proofs.Common.{◌≡◌, ℕ, Bool, true, false, not, cond, eq-eqb, List, [], ◌∷◌, ◌++◌, Option, Some, None, refl, sym, ap, subst, ◌∙◌, is_some}
+use Rattle.gh_run.proofs.Vocabulary.{Answer, asks, begins_by, begins_pointed, begun_in, begun_next, deeds, ends_with_answer, entries_made, Entry, Gave, given_at, given_by, given_is, gives, gives_at, goes, has_left_at, has_point, HeapActor, is_busy_at, is_pointed, Kind, Layout, machine_after, Mutating, Op, option_to_list, Planned, Processor, processor_kind, Runs, runs_after, started, state_of, stays_pointed, takes, takes_at, Task}
 use Rattle.gh_base.specs.declared.shape.Shape.{Shape}
-use Rattle.gh_base.specs.declared.value.Answer.{Answer}
-use Rattle.gh_base.specs.Lists.{Kind, started, state_of}
-use Rattle.gh_base.specs.Orders.{given_by}
-use Rattle.gh_mutator.specs.Processing.{Processor}
-use Rattle.gh_mutator.specs.declared.task.Task.{Task}
-use Rattle.gh_mutator.specs.declared.task.Task.TheVariants as task
-use Rattle.gh_mutator.specs.Deeds.{deeds, given_at, has_point, processor_kind}
-use Rattle.gh_mutator.specs.Listing.{begins as begins_by, gives_at, is_busy_at, takes, takes_at}
 use Rattle.gh_mutator.specs.Mutating as mutating
-use Rattle.gh_mutator.specs.Mutating.{Mutating}
-use Rattle.gh_mutator.specs.Serving.{has_left_at}
-use Rattle.gh_actor.specs.declared.actor.HeapActor.{HeapActor}
-use Rattle.gh_actor.specs.declared.actor.HeapActor.TheVariants.{Runs}
-use Rattle.gh_actor.specs.Machines.{asks, ends_with_answer, gives, goes}
-use Rattle.gh_actor.specs.Plans.{Planned}
-use Rattle.gh_shared.proofs.Keeping.{runs_after}
-use Rattle.gh_table.specs.Runs.{begun_next, entries_made, Gave, machine_after}
-use Rattle.gh_lists.specs.Order.{begun_in}
 use Rattle.gh_world.proofs.StepFacts.{step_facts}
-use Rattle.gh_world.proofs.Explained.Steps.{begins_pointed, given_is, is_pointed, stays_pointed}
 
 -- ---- steps of a processor that rests
 
 rests_on : (l : Layout) (shapes : List Shape) (m : Processor) (t : Task) (found : ℕ) → is_busy_at t ≡ false → takes_at l shapes m t found ≡ m
-rests_on l shapes m task.Idle found e = refl
-rests_on l shapes m task.Left found e = refl
+rests_on l shapes m Task.Idle found e = refl
+rests_on l shapes m Task.Left found e = refl
 rests_on l shapes m _ found e = absurd cc
 
 -- one that has a step to make behind a step had one before it
@@ -43,8 +21,8 @@ busy_before l m found busy = go (mutating.is_busy m) refl where
 
 -- and so had one whose step ends an operation
 gives_busy : (l : Layout) (m : Processor) (t : Task) (found : ℕ) (x : Answer) → gives_at l m t found ≡ Some x → is_busy_at t ≡ true
-gives_busy l m task.Idle found x e = absurd cc
-gives_busy l m task.Left found x e = absurd cc
+gives_busy l m Task.Idle found x e = absurd cc
+gives_busy l m Task.Left found x e = absurd cc
 gives_busy l m _ found x e = refl
 
 not_some : (x : Option Answer) → true ≡ not (is_some x) → x ≡ None

@@ -1,18 +1,7 @@
 -- The answers of one goroutine among those of all.
-use Rattle.std.proofs.Common.{◌≡◌, ℕ, ◌+◌, ◌%◌, ◌<◌, ◌≤◌, get_or, take, drop, take-append-drop, Some, Bool, true, false, cond, eqb, eq-eqb, ◌&&◌, List, [], ◌∷◌, ◌++◌, length, length-append, reverse, refl, sym, ap, subst, ◌∙◌, append_assoc, arith}
-use Rattle.std.specs.List.{filter}
-use Rattle.std.specs.Prelude.{slice_get}
-use Rattle.std.proofs.lemmas.Bool.Decides.{nat_tests}
-use Rattle.std.proofs.lemmas.List.{append-nil, length-map, length-reverse, drop_more, map-append, take_more}
-use Rattle.std.proofs.lemmas.Option.{get_or_from_slice_get, slice_get_within}
-use Rattle.gh_base.specs.declared.operation.Op.{Op}
-use Rattle.gh_base.specs.declared.value.Answer.{Answer}
-use Rattle.gh_lines.specs.Text.{answers_by}
-use Rattle.gh_mutator.specs.Deeds.{has_point}
-use Rattle.gh_mutator.specs.Serving.{is_statement}
-use Rattle.gh_run.specs.Jobs.{of_goroutine, told, told_in_order}
-use Rattle.gh_script.specs.Program.{Program, statement_as_op, statements_of}
-use Rattle.gh_world.specs.Turns.{is_statement_of, its_goroutine, turns_of}
+use Rattle.std.proofs.Common.{◌≡◌, ℕ, ◌+◌, ◌%◌, ◌<◌, ◌≤◌, get_or, take, drop, take-append-drop, Bool, true, false, cond, eqb, eq-eqb, ◌&&◌, List, [], ◌∷◌, ◌++◌, length, length-append, reverse, refl, sym, ap, subst, ◌∙◌, append_assoc, arith}
+use Rattle.std.proofs.lemmas.List.{append-nil, length-map, length-reverse, map-append}
+use Rattle.gh_run.proofs.Vocabulary.{Answer, answers_by, filter, has_point, is_statement, is_statement_of, its_goroutine, nat_tests, of_goroutine, Op, Program, statement_as_op, statements_of, take_more, told, told_in_order, turns_of}
 use Rattle.gh_world.proofs.EachOnce.{turns_mine}
 use Rattle.gh_world.proofs.Explained.Seats.{filter-reverse}
 
@@ -121,14 +110,3 @@ one_told_more answers its g ys is told = record {
       by_append h answers (of_goroutine g ys) ∙ ap (λ (zs : List Answer). answers_by h answers ++ zs) (of_another g h e ys) ∙ append-nil (answers_by h answers) ∙ told.low h xs (grind (arith, nat_tests)) i
 
 -- ---- the answers behind a place
-
-dropped : (xs : List (ℕ × Answer)) (i : ℕ) (x : ℕ × Answer) → slice_get xs i ≡ Some x → drop i xs ≡ x ∷ drop (i + 1) xs
-dropped xs i x at = drop_more xs i x (slice_get_within xs i x at) ∙ ap (λ (y : ℕ × Answer). y ∷ drop (i + 1) xs) (get_or_from_slice_get xs i x x at)
-
-pub next_mine : (g i : ℕ) (xs : List (ℕ × Answer)) (x : ℕ × Answer) → slice_get xs i ≡ Some x → x.0 ≡ g → answers_by g (drop i xs) ≡ x.1 ∷ answers_by g (drop (i + 1) xs)
-next_mine g i xs x at mine = ap (answers_by g) (dropped xs i x at) ∙ ap (λ (b : Bool). cond b (x.1 ∷ []) [] ++ answers_by g (drop (i + 1) xs)) (eq-eqb x.0 g mine)
-
-pub next_other : (g i : ℕ) (xs : List (ℕ × Answer)) (x : ℕ × Answer) → slice_get xs i ≡ Some x → (x.0 ≡ g → ⊥) → answers_by g (drop i xs) ≡ answers_by g (drop (i + 1) xs)
-next_other g i xs x at other =
-    let apart : eqb x.0 g ≡ false = grind (arith, nat_tests) in
-    ap (answers_by g) (dropped xs i x at) ∙ ap (λ (b : Bool). cond b (x.1 ∷ []) [] ++ answers_by g (drop (i + 1) xs)) apart

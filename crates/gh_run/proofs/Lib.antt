@@ -9,3 +9,4 @@ pub mod Seats
 pub mod Starting
 pub mod Turns
 pub mod Whole
+pub mod Vocabulary

@@ -1,8 +1,6 @@
 -- What holds of each element of a list by its place.
-use Rattle.std.proofs.Common.{◌≡◌, ℕ, zero, suc, ◌+◌, ◌<◌, List, [], ◌∷◌, ◌++◌, length, Some, refl, ap, subst, arith}
-use Rattle.std.specs.Prelude.{slice_get}
-use Rattle.gh_gate.specs.Jobs.{AllHaveRun}
-use Rattle.gh_run.specs.Jobs.{EachFrom}
+use Rattle.std.proofs.Common.{◌≡◌, ℕ, zero, suc, ◌+◌, ◌<◌, List, [], ◌∷◌, ◌++◌, length, Some, refl, ap, subst, arith, slice_get}
+use Rattle.gh_run.proofs.Vocabulary.{AllHaveRun, EachFrom}
 
 module _ {X : Type 0} (P : ℕ → X → Type 0) where
   at_place : (i j : ℕ) (x : X) → i ≡ j → P i x → P j x

@@ -1,10 +1,6 @@
 -- The statements of one processor's goroutines, goroutine after goroutine.
-use Rattle.std.proofs.Common.{◌≡◌, ℕ, zero, suc, ◌+◌, ◌<◌, ◌≤◌, Bool, true, false, cond, List, [], ◌∷◌, ◌++◌, length, take, ap, ◌∙◌, arith}
-use Rattle.std.specs.Prelude.{sum_by}
-use Rattle.std.specs.List.{range_with_len}
-use Rattle.std.proofs.lemmas.List.Sums.{sum_by_more, sum_by-append}
-use Rattle.gh_script.specs.Program.{no_goroutine, Program, statements_in}
-use Rattle.gh_world.specs.Turns.{count_of, is_of_seat}
+use Rattle.std.proofs.Common.{◌≡◌, ℕ, zero, suc, ◌+◌, ◌<◌, ◌≤◌, Bool, true, false, cond, List, [], ◌∷◌, ◌++◌, length, take, ap, ◌∙◌, arith, sum_by}
+use Rattle.gh_run.proofs.Vocabulary.{count_of, is_of_seat, no_goroutine, Program, range_with_len, statements_in, sum_by-append, sum_by_more}
 
 range_suc : (n a : ℕ) → range_with_len a (suc n) ≡ range_with_len a n ++ (a + n) ∷ []
 range_suc zero a = let e : a ≡ a + 0 = omega arith in ap (λ (x : ℕ). x ∷ []) e

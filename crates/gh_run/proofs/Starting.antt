@@ -2,35 +2,11 @@
 use Rattle.std.proofs.Common.{◌≡◌, ℕ, ◌<◌, ◌≤◌, nat_lt, Bool, true, false, cond, List, [], ◌∷◌, ◌++◌, length, reverse, None, refl, sym, ap, subst, ◌∙◌, arith}
 use Rattle.std.proofs.lemmas.Bool.{leb-true, lt-ltb}
 use Rattle.std.proofs.lemmas.List.{append-nil}
-use Rattle.gh_base.specs.declared.machine.Entry.{Entry}
-use Rattle.gh_base.specs.declared.operation.Op.{Op}
+use Rattle.gh_run.proofs.Vocabulary.{acks_of, Answer, answers_in, begun_in, by, EachKeepsItsPlace, ended_at, ended_of, Entry, Handle, Heap, HeapActor, IsAtEnd, IsAtStart, IsBetweenTurns, IsCoordinator, IsFresh, IsOther, IsProcessor, IsWorker, KeepsPlace, Leads, leave_is_begun, machine_of, Marks, most_cycles, Next, number_of, Op, op_due, opening, opening_progress, own_of, plan_of, Planned, Program, Progress, RanToItsEnd, room_at, Runs, to_come, View, view_of}
 use Rattle.gh_base.specs.declared.pack.TheConstants.{ENTRIES}
-use Rattle.gh_base.specs.declared.value.Answer.{Answer}
-use Rattle.gh_base.specs.Lists.{by}
 use Rattle.gh_coord.specs.Listing as coord
-use Rattle.gh_coord.specs.Stopping.{acks_of}
 use Rattle.gh_mutator.specs.Mutating as mutating
-use Rattle.gh_run.specs.Jobs.{answers_in, IsAtEnd, IsAtStart, IsBetweenTurns}
-use Rattle.gh_script.specs.Program.{Program}
-use Rattle.gh_shared.specs.declared.handle.Handle.{Handle}
-use Rattle.gh_shared.specs.declared.heap.Heap.{Heap}
-use Rattle.gh_actor.specs.declared.actor.HeapActor.{HeapActor}
-use Rattle.gh_actor.specs.declared.actor.HeapActor.TheVariants.{Leads, Marks, Runs}
-use Rattle.gh_shared.specs.Calls.{RanToItsEnd}
-use Rattle.gh_shared.specs.Handles.{ended_at, ended_of, IsFresh, machine_of, number_of, own_of, plan_of, room_at, view_of}
-use Rattle.gh_actor.specs.Machines.{IsCoordinator, IsOther, IsProcessor, IsWorker, opening}
-use Rattle.gh_actor.specs.Plans.{Planned}
-use Rattle.gh_table.specs.declared.plan.View.{View}
 use Rattle.gh_worker.specs.Listing as worker
-use Rattle.gh_world.specs.declared.progress.Progress.{Progress}
-use Rattle.gh_world.specs.declared.turns.Next.{Next}
-use Rattle.gh_world.specs.declared.turns.Next.TheVariants as next
-use Rattle.gh_world.specs.After.{KeepsPlace}
-use Rattle.gh_world.specs.Due.{EachKeepsItsPlace}
-use Rattle.gh_lists.specs.Order.{begun_in}
-use Rattle.gh_world.specs.Turns.{leave_is_begun, op_due, to_come}
-use Rattle.gh_world.specs.Wishes.{most_cycles}
-use Rattle.gh_world.specs.World.{opening_progress}
 
 -- ---- machines before their first steps
 
@@ -78,16 +54,16 @@ processor_else (Leads c) worker leads = absurd (leads tt)
 -- ---- a processor
 
 none_to_come : (p : Program) (a : ℕ) (n : Next) → leave_is_begun n ≡ true → to_come p a n ≡ []
-none_to_come p a (next.Poll r g) e = absurd cc
-none_to_come p a (next.Run r g) e = absurd cc
-none_to_come p a next.Leave e = absurd cc
-none_to_come p a next.Over e = refl
+none_to_come p a (Next.Poll r g) e = absurd cc
+none_to_come p a (Next.Run r g) e = absurd cc
+none_to_come p a Next.Leave e = absurd cc
+none_to_come p a Next.Over e = refl
 
 none_due : (p : Program) (n : Next) → op_due p n ≡ None → leave_is_begun n ≡ true
-none_due p (next.Poll r g) e = absurd cc
-none_due p (next.Run r g) e = absurd cc
-none_due p next.Leave e = absurd cc
-none_due p next.Over e = refl
+none_due p (Next.Poll r g) e = absurd cc
+none_due p (Next.Run r g) e = absurd cc
+none_due p Next.Leave e = absurd cc
+none_due p Next.Over e = refl
 
 module _ (p : Program) (heap : Heap) (h : Handle) (t : Progress) (answers : List (ℕ × Answer)) (room : ℕ) where
   pub between_first : EachKeepsItsPlace → IsAtStart p heap h t answers room → IsProcessor (machine_of h) → IsBetweenTurns p heap h t answers room

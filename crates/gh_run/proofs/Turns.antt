@@ -1,49 +1,12 @@
 -- A processor between two of its turns, once it has taken a further one.
 use Rattle.std.proofs.Common.{◌≡◌, ℕ, ◌+◌, ◌<◌, Bool, true, false, cond, List, [], ◌∷◌, ◌++◌, length, length-append, Option, Some, None, refl, sym, ap, subst, ◌∙◌, arith}
-use Rattle.std.specs.List.{filter}
-use Rattle.std.specs.Option.{option_to_list}
 use Rattle.std.proofs.lemmas.List.{append-nil}
-use Rattle.gh_base.specs.declared.layout.Layout.{Layout}
-use Rattle.gh_base.specs.declared.machine.Entry.{Entry}
-use Rattle.gh_base.specs.declared.operation.Op.{Op}
-use Rattle.gh_base.specs.declared.operation.Op.TheVariants as op
-use Rattle.gh_base.specs.declared.value.Answer.{Answer}
-use Rattle.gh_base.specs.Lists.{by, state_of}
+use Rattle.gh_run.proofs.Vocabulary.{Actor, Answer, answers_in, arena_of, AreTurns, asks, begins, begun_in, by, by_made, EachKeepsItsPlace, ended_at, ended_of, entries_made, Entry, filter, Follows, Gave, given_of, gives, goes, Handle, has_left, has_left_at, has_point, has_room_then, HasShapes, Heap, HeapActor, is_leaving, is_poll_due, is_processor, is_run_due, is_statement, IsBetweenTurns, IsProcessor, its_goroutine, KeepsPlace, Layout, layout_of, Leads, machine_actor, machine_after, machine_of, Marks, Mutating, Next, number_of, OfItsOwn, Op, op_due, Operated, option_to_list, own_of, PlacesAreKept, plan_of, Planned, processor_kind, Program, Progress, progress_after, Runs, setting, state_of, statement_pointed, statements_among, Task, to_come, told, told_in_order, view_of, WellFormed}
 use Rattle.gh_base.specs.Packing.{bit}
-use Rattle.gh_mutator.specs.declared.task.Task.{Task}
-use Rattle.gh_mutator.specs.declared.task.Task.TheVariants as task
-use Rattle.gh_mutator.specs.Deeds.{has_point, processor_kind}
-use Rattle.gh_mutator.specs.Mutating.{Mutating}
 use Rattle.gh_mutator.specs.PollRoom.{PollsMakeRoom}
-use Rattle.gh_mutator.specs.Serving.{has_left_at, is_leaving, is_statement}
-use Rattle.gh_run.specs.Jobs.{answers_in, IsBetweenTurns, told, told_in_order}
 use Rattle.gh_run.proofs.Fitting.{going_on}
 use Rattle.gh_run.proofs.Given as given
-use Rattle.gh_script.specs.Program.{Program, WellFormed}
-use Rattle.gh_shared.specs.declared.handle.Handle.{Handle}
-use Rattle.gh_shared.specs.declared.heap.Heap.{Heap}
-use Rattle.gh_actor.specs.declared.actor.HeapActor.{HeapActor}
-use Rattle.gh_actor.specs.declared.actor.HeapActor.TheVariants.{Leads, Marks, Runs}
-use Rattle.gh_shared.specs.Calls.{Operated}
-use Rattle.gh_shared.specs.Handles.{ended_at, ended_of, layout_of, machine_of, number_of, own_of, plan_of, view_of}
-use Rattle.gh_actor.specs.Machines.{asks, begins, gives, goes, HasShapes, IsProcessor, machine_actor}
-use Rattle.gh_actor.specs.Plans.{Planned, setting}
-use Rattle.gh_shared.proofs.Keeping.{by_made}
-use Rattle.gh_shared.proofs.Ready.{has_room_then, OfItsOwn}
-use Rattle.gh_table.specs.Runs.{entries_made, Gave, machine_after}
-use Rattle.gh_lists.specs.declared.handshake.Actor.TheVariants as actor
-use Rattle.gh_world.specs.declared.progress.Progress.{Progress}
-use Rattle.gh_world.specs.declared.turns.Next.{Next}
-use Rattle.gh_world.specs.declared.turns.Next.TheVariants as next
-use Rattle.gh_world.specs.After.{KeepsPlace}
-use Rattle.gh_world.specs.Due.{EachKeepsItsPlace, PlacesAreKept}
-use Rattle.gh_lists.specs.Order.{begun_in, has_left}
-use Rattle.gh_lists.specs.Processors.{arena_of, given_of}
-use Rattle.gh_world.specs.Turns.{Follows, is_poll_due, is_run_due, its_goroutine, op_due, statements_among, to_come}
-use Rattle.gh_world.specs.World.{AreTurns, progress_after}
 use Rattle.gh_world.proofs.Due.{leaves_is}
-use Rattle.gh_world.proofs.Explained.Steps.{statement_pointed}
-use Rattle.gh_world.proofs.Resting.{is_processor}
 
 -- ---- its place
 
@@ -66,7 +29,7 @@ told_more o os x gs = go (has_point o) refl where
   go false e = sym (ap (λ (b : Bool). told_in_order (filter has_point os) gs ++ cond b ((its_goroutine o, x) ∷ []) []) (statement_pointed o e) ∙ append-nil (told_in_order (filter has_point os) gs))
 
 not_left : (t : Task) (l : Bool) → is_leaving t ≡ l → l ≡ false → has_left_at t ≡ false
-not_left task.Left l e f = absurd (let no : true ≡ false = e ∙ f in cc)
+not_left Task.Left l e f = absurd (let no : true ≡ false = e ∙ f in cc)
 not_left _ l e f = refl
 
 module _ (law : OfItsOwn) (h h' : Handle) (o : Op) (founds : List ℕ) (x : Answer) where
@@ -81,7 +44,7 @@ module _ (law : OfItsOwn) (h h' : Handle) (o : Op) (founds : List ℕ) (x : Answ
       let rests = h.kept.rests m is in
       let shapes : HasShapes q (Runs m) = subst (HasShapes q) is h.hand.belongs.1 in
       let own : by a (view_of h').log ≡ given.Made q.layout a m o (own_of h) founds = ap (by a) log ∙ by_made q.layout a (Some o) (begins (Runs m) o) founds (view_of h).log in
-      let whole : actor.Runs m.processor ≡ actor.Runs (state_of (processor_kind q.script.shapes q.layout) a (own_of h)) = sym (ap machine_actor is) ∙ h.hand.state ∙ law (setting q).kind a (view_of h).log ∙ is_processor q.script q.layout a rests.seat (own_of h) in
+      let whole : Actor.Runs m.processor ≡ Actor.Runs (state_of (processor_kind q.script.shapes q.layout) a (own_of h)) = sym (ap machine_actor is) ∙ h.hand.state ∙ law (setting q).kind a (view_of h).log ∙ is_processor q.script q.layout a rests.seat (own_of h) in
       let state : state_of (processor_kind q.script.shapes q.layout) a (own_of h) ≡ m.processor = cc in
       let there : has_left_at m.processor.task ≡ false = not_left m.processor.task (has_left (own_of h)) rests.leaves (subst (λ (y : HeapActor). ended_at y (own_of h) ≡ false) is going) in
       ap (answers_in q a) own
@@ -96,11 +59,11 @@ processor_is (Runs m) is = (m, refl)
 processor_is (Marks w) is = absurd is
 processor_is (Leads c) is = absurd is
 
-poll_due : (p : Program) (n : Next) (o : Op) → op_due p n ≡ Some o → is_poll_due n ≡ true → op.Poll ≡ o
-poll_due p (next.Poll r g) o due e = cc
-poll_due p (next.Run r g) o due e = absurd cc
-poll_due p next.Leave o due e = absurd cc
-poll_due p next.Over o due e = absurd cc
+poll_due : (p : Program) (n : Next) (o : Op) → op_due p n ≡ Some o → is_poll_due n ≡ true → Op.Poll ≡ o
+poll_due p (Next.Poll r g) o due e = cc
+poll_due p (Next.Run r g) o due e = absurd cc
+poll_due p Next.Leave o due e = absurd cc
+poll_due p Next.Over o due e = absurd cc
 
 told_long : (o : Op) (x : Answer) → length (told o x) ≡ bit (is_statement o)
 told_long o x = go (is_statement o) where

@@ -1,19 +1,9 @@
 -- From the jobs of a heap to what its run has told.
 use Rattle.std.proofs.Common.{◌≡◌, ℕ, suc, ◌+◌, ◌%◌, ◌^◌, List, [], ◌∷◌, All, map, sym, ap, subst, ◌∙◌}
 use Rattle.std.proofs.lemmas.List.Elements.{All-cons, All-nil}
-use Rattle.std.specs.Vec.{vec_capacity}
-use Rattle.gh_base.specs.declared.value.Answer.{Answer}
+use Rattle.gh_run.proofs.Vocabulary.{AllHaveRun, Answer, AreDoneOf, AreJobsOf, Coordinating, EachFrom, Heap, HeapJob, IsAtEnd, IsAtStart, IsDoneOf, IsJobOf, IsRunByThreads, last_kept, marked_by, outcome_by, Program, swept_cycle, vec_capacity, which_job, WhichJob}
 use Rattle.gh_coord.specs.declared.cycles.Cycle.{Cycle}
-use Rattle.gh_coord.specs.Keeping.{last_kept}
-use Rattle.gh_coord.specs.Listing.{Coordinating}
-use Rattle.gh_gate.specs.Jobs.{AllHaveRun}
-use Rattle.gh_run.specs.declared.job.HeapJob.{HeapJob}
-use Rattle.gh_run.specs.Jobs.{AreDoneOf, AreJobsOf, EachFrom, IsAtEnd, IsAtStart, IsDoneOf, IsJobOf, which_job, WhichJob}
-use Rattle.gh_run.specs.Told.{IsRunByThreads}
 use Rattle.gh_run.proofs.Places.{as_many, ran_each}
-use Rattle.gh_script.specs.Program.{Program}
-use Rattle.gh_shared.specs.declared.heap.Heap.{Heap}
-use Rattle.gh_world.specs.Runs.{marked_by, outcome_by, swept_cycle}
 
 module _ {G : Type 0} (p : Program) (heap : Heap) where
   -- where a job begins, and that it has ended

@@ -1,15 +1,7 @@
 -- The scan of an object ends exactly where nothing is left to be loaded, and rests then.
 use Rattle.std.proofs.Common.{◌≡◌, ℕ, zero, suc, ◌+◌, ◌-◌, ◌<◌, ◌≤◌, ◌==◌, Bool, true, false, cond, Option, Some, None, refl, sym, ap, subst, ◌∙◌, arith, below_more}
 use Rattle.std.proofs.lemmas.Bool.{eqb-true, eq-eqb}
-use Rattle.gh_base.specs.declared.held.Held.{Held}
-use Rattle.gh_base.specs.declared.layout.Layout.{Layout}
-use Rattle.gh_base.specs.Routines.{EndsWith, GoesOn}
-use Rattle.gh_scan.specs.declared.scan.ScanStage.{ScanStage}
-use Rattle.gh_scan.specs.declared.scan.ScanStage.TheVariants.{LoadPage, LoadBitmap, LoadField, Shading, FindRoom, Ended}
-use Rattle.gh_scan.specs.Listing.{after_room, after_shade, at_next, behind, bit_says_pointer, end, given, given_at, goes_at, is_busy, is_loaded, next_from, next_in, object_of, reference_in, Scanning, transitions}
-use Rattle.gh_scan.specs.Scans.{after, DoneWith, EndsAtOnce, from, IsDoneWithWord, NoneLeft, slot_told}
-use Rattle.gh_shade.specs.declared.shade.Shaded.{Shaded}
-use Rattle.gh_shade.specs.declared.shade.Shaded.TheVariants.{Done, WantsRoom}
+use Rattle.gh_scan.proofs.Vocabulary.{after, after_room, after_shade, at_next, behind, bit_says_pointer, Done, DoneWith, end, Ended, EndsAtOnce, EndsWith, FindRoom, from, given, given_at, goes_at, GoesOn, Held, is_busy, is_loaded, IsDoneWithWord, Layout, LoadBitmap, LoadField, LoadPage, next_from, next_in, NoneLeft, object_of, reference_in, Scanning, ScanStage, Shaded, Shading, slot_told, transitions, WantsRoom}
 use Rattle.gh_shade.specs.Listing as shade
 use Rattle.gh_wbuf.specs.RoomFinding as room
 

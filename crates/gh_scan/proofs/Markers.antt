@@ -1,20 +1,12 @@
 -- While marking is on the steps of the scan are moves that its seat may make. Of the moves, of shading and of the search for room it is known what their laws say.
 use Rattle.std.proofs.Common.{◌≡◌, ◌≢◌, ℕ, ◌+◌, ◌-◌, ◌*◌, ◌/◌, ◌%◌, ◌<◌, ◌≤◌, Bool, true, false, cond, eqb, Option, Some, None, inl, inr, refl, sym, ap, subst, ◌∙◌, arith, eqb-true, eq-eqb}
+use Rattle.gh_scan.proofs.Vocabulary.{after_room, after_shade, asks_at, at_stage, behind, besides, bit, bit_at, bit_says_pointer, bitmap_words, BitsAre, Cell, cell_of, Cycle, Done, EachHandLasts, EachStepGoesByMoves, effect, Ended, Facts, FindRoom, given_at, goes, goes_at, Good, Hands, Held, in_hand, InHand, IsAt, IsAtPointerField, IsClean, IsMarked, IsPointer, Keeps, landing, landing_on, Lands, lands_still, Load, LoadBitmap, LoadField, LoadPage, mark_words, mod-eq_of_lt, object_of, Others, reference_in, RowsAreWritten, Scanning, ScansByMoves, ScanStage, Shaded, Shades, Shading, Shared, StageFacts, Steps, Taken, WantsRoom, Went, with_bits, with_found_field}
 use Rattle.gh_base.specs.declared.cell.Ask.{Ask}
-use Rattle.gh_base.specs.declared.cell.Cell.TheVariants as cell
-use Rattle.gh_base.specs.Packing.{bit}
-use Rattle.gh_marks.specs.Colours.{Cycle, IsClean, IsMarked, IsPointer, Shared, Taken}
-use Rattle.gh_marks.specs.Good.{Good}
 use Rattle.gh_marks.specs.Knows.{KnowsObject, KnowsObjects}
-use Rattle.gh_marks.specs.Laws.{EachHandLasts, EachStepGoesByMoves}
-use Rattle.gh_marks.specs.Moves.{Keeps, Lands, Others, Steps, Went, landing, landing_on, lands_still}
-use Rattle.gh_marks.specs.Seats.{Hands, InHand}
 use Rattle.gh_shade.specs.Facts as shade_facts
 use Rattle.gh_shade.specs.Listing as shade
 use Rattle.gh_wbuf.specs.Facts as room_facts
 use Rattle.gh_wbuf.specs.RoomFinding as room
-use Rattle.gh_scan.specs.Facts.{BitsAre, Facts, IsAt, IsAtPointerField, ScansByMoves, Shades, StageFacts, besides, in_hand}
-use Rattle.gh_scan.proofs.Vocabulary.{after_room, after_shade, asks_at, at_stage, behind, bit_at, bit_says_pointer, bitmap_words, Cell, cell_of, Done, effect, Ended, FindRoom, given_at, goes, goes_at, Held, Load, LoadBitmap, LoadField, LoadPage, mark_words, mod-eq_of_lt, object_of, reference_in, RowsAreWritten, Scanning, ScanStage, Shaded, Shading, WantsRoom, with_bits, with_found_field}
 use Rattle.gh_scan.proofs.MarkersAt.{IsDone, KnownOfFacts, at-kept, field-kept, goes-behind, shades-kept}
 
 pub record Known : Type 0 where
@@ -32,7 +24,7 @@ module _ (k : Known) (z : Cycle) (a : ℕ) (s : Shared) (rest : InHand) (g : Goo
   abbrev Leads : Ask → Scanning → Type 0
   Leads ask n = Steps z a s ask (λ t. Keeps z a s t × Facts z a t rest n)
 
-  object : KnowsObject z.arena.layout.pages (λ p. s.words (cell.Page p)) (bitmap_words s.words) s.extents o
+  object : KnowsObject z.arena.layout.pages (λ p. s.words (Cell.Page p)) (bitmap_words s.words) s.extents o
   object = objects o known
 
   stays : Keeps z a s s
@@ -45,8 +37,8 @@ module _ (k : Known) (z : Cycle) (a : ℕ) (s : Shared) (rest : InHand) (g : Goo
   passes : (c : Cell) (n : Scanning) → IsDone k.marks z a s rest g n → Leads (Load c) (behind n)
   passes c n d = goes-behind k.marks z a s rest g n d
 
-  page : Hands a s (in_hand rest m.held (Some o)) → Leads (Load (cell.Page (o / 1024))) (goes_at z.arena.layout m LoadPage (s.words (cell.Page (o / 1024))))
-  page x = still (cell.Page (o / 1024)) (goes_at z.arena.layout m LoadPage (s.words (cell.Page (o / 1024)))) (record {
+  page : Hands a s (in_hand rest m.held (Some o)) → Leads (Load (Cell.Page (o / 1024))) (goes_at z.arena.layout m LoadPage (s.words (Cell.Page (o / 1024))))
+  page x = still (Cell.Page (o / 1024)) (goes_at z.arena.layout m LoadPage (s.words (Cell.Page (o / 1024)))) (record {
     seat_is = seat_is;
     known = known;
     stage_is = (record { slot_is = object.size_is; from = omega arith; below = omega (arith, object.some); clean = λ j l lt. absurd (omega arith) }, x);
@@ -69,15 +61,15 @@ module _ (k : Known) (z : Cycle) (a : ℕ) (s : Shared) (rest : InHand) (g : Goo
     bit-one b n e = grind arith
 
     -- the word of the bitmap says which words are pointer fields
-    bits-are : BitsAre s.extents o (s.words (cell.Bitmap (m.at / 64 % (16 * z.arena.layout.pages)))) m.at
+    bits-are : BitsAre s.extents o (s.words (Cell.Bitmap (m.at / 64 % (16 * z.arena.layout.pages)))) m.at
     bits-are j l e =
-        let word : bit_at (s.words (cell.Bitmap ((o + j) / 64))) ((o + j) % 64) ≡ bit (s.extents.pointer o j) = sym (k.rows.bit_of (bitmap_words s.words) ((o + j) / 64) (o + j) refl) ∙ object.pointers_are j l in
-        bit-one (s.extents.pointer o j) (bit_at (s.words (cell.Bitmap (m.at / 64 % (16 * z.arena.layout.pages)))) ((o + j) % 64)) (ap (λ (i : ℕ). bit_at (s.words (cell.Bitmap i)) ((o + j) % 64)) (group ∙ sym e) ∙ word)
+        let word : bit_at (s.words (Cell.Bitmap ((o + j) / 64))) ((o + j) % 64) ≡ bit (s.extents.pointer o j) = sym (k.rows.bit_of (bitmap_words s.words) ((o + j) / 64) (o + j) refl) ∙ object.pointers_are j l in
+        bit-one (s.extents.pointer o j) (bit_at (s.words (Cell.Bitmap (m.at / 64 % (16 * z.arena.layout.pages)))) ((o + j) % 64)) (ap (λ (i : ℕ). bit_at (s.words (Cell.Bitmap i)) ((o + j) % 64)) (group ∙ sym e) ∙ word)
 
-    bitmap : Leads (Load (cell.Bitmap (m.at / 64 % (16 * z.arena.layout.pages)))) (with_bits m (s.words (cell.Bitmap (m.at / 64 % (16 * z.arena.layout.pages)))))
+    bitmap : Leads (Load (Cell.Bitmap (m.at / 64 % (16 * z.arena.layout.pages)))) (with_bits m (s.words (Cell.Bitmap (m.at / 64 % (16 * z.arena.layout.pages)))))
     bitmap = by (bit_says_pointer f m.at) refl where
       f : ℕ
-      f = s.words (cell.Bitmap (m.at / 64 % (16 * z.arena.layout.pages)))
+      f = s.words (Cell.Bitmap (m.at / 64 % (16 * z.arena.layout.pages)))
 
       index : m.at ≡ o + (m.at - o)
       index = omega (arith, is_at.from)
@@ -88,13 +80,13 @@ module _ (k : Known) (z : Cycle) (a : ℕ) (s : Shared) (rest : InHand) (g : Goo
       same : bit_says_pointer f m.at ≡ s.extents.pointer o (m.at - o)
       same = ap (bit_says_pointer f) index ∙ bits-are (m.at - o) less (ap (λ (n : ℕ). n / 64) (sym index))
 
-      by : (b : Bool) → bit_says_pointer f m.at ≡ b → Leads (Load (cell.Bitmap (m.at / 64 % (16 * z.arena.layout.pages)))) (cond b (record m { bits = f; stage = LoadField }) (behind (record m { bits = f })))
-      by true e = still (cell.Bitmap (m.at / 64 % (16 * z.arena.layout.pages))) (record m { bits = f; stage = LoadField }) (record {
+      by : (b : Bool) → bit_says_pointer f m.at ≡ b → Leads (Load (Cell.Bitmap (m.at / 64 % (16 * z.arena.layout.pages)))) (cond b (record m { bits = f; stage = LoadField }) (behind (record m { bits = f })))
+      by true e = still (Cell.Bitmap (m.at / 64 % (16 * z.arena.layout.pages))) (record m { bits = f; stage = LoadField }) (record {
         seat_is = seat_is;
         known = known;
         stage_is = (is_at, record { k = m.at - o; at_is = index; pointer = (less, sym same ∙ e, scanned); bits_are = bits-are }, x);
       })
-      by false e = passes (cell.Bitmap (m.at / 64 % (16 * z.arena.layout.pages))) (record m { bits = f }) (record {
+      by false e = passes (Cell.Bitmap (m.at / 64 % (16 * z.arena.layout.pages))) (record m { bits = f }) (record {
         seat_is = seat_is;
         known = known;
         is_at = is_at;
@@ -107,24 +99,24 @@ module _ (k : Known) (z : Cycle) (a : ℕ) (s : Shared) (rest : InHand) (g : Goo
             let not : bit_says_pointer f (o + j) ≡ false = ap (bit_says_pointer f) at ∙ e in
             cc
 
-    field : IsAtPointerField s o m.bits m.at → Leads (Load (cell.Field (m.at % (1024 * z.arena.layout.pages)))) (with_found_field z.arena.layout m (s.words (cell.Field (m.at % (1024 * z.arena.layout.pages)))))
-    field h = subst (λ (i : ℕ). Leads (Load (cell.Field i)) (with_found_field z.arena.layout m (s.words (cell.Field i)))) (sym (mod-eq_of_lt in_heap)) (by (eqb v 0) refl) where
+    field : IsAtPointerField s o m.bits m.at → Leads (Load (Cell.Field (m.at % (1024 * z.arena.layout.pages)))) (with_found_field z.arena.layout m (s.words (Cell.Field (m.at % (1024 * z.arena.layout.pages)))))
+    field h = subst (λ (i : ℕ). Leads (Load (Cell.Field i)) (with_found_field z.arena.layout m (s.words (Cell.Field i)))) (sym (mod-eq_of_lt in_heap)) (by (eqb v 0) refl) where
       v : ℕ
-      v = s.words (cell.Field m.at)
+      v = s.words (Cell.Field m.at)
 
-      is-v : s.words (cell.Field (o + h.k)) ≡ v
-      is-v = ap (λ (i : ℕ). s.words (cell.Field i)) (sym h.at_is)
+      is-v : s.words (Cell.Field (o + h.k)) ≡ v
+      is-v = ap (λ (i : ℕ). s.words (Cell.Field i)) (sym h.at_is)
 
-      at-it : (j : ℕ) → o + j ≡ m.at → s.words (cell.Field (o + j)) ≡ v
-      at-it j e = ap (λ (i : ℕ). s.words (cell.Field i)) e
+      at-it : (j : ℕ) → o + j ≡ m.at → s.words (Cell.Field (o + j)) ≡ v
+      at-it j e = ap (λ (i : ℕ). s.words (Cell.Field i)) e
 
-      by : (b : Bool) → eqb v 0 ≡ b → Leads (Load (cell.Field m.at)) (cond b (behind m) (at_stage m (Shading (shade.opening (reference_in z.arena.layout v) m.held))))
-      by true e = passes (cell.Field m.at) m (record {
+      by : (b : Bool) → eqb v 0 ≡ b → Leads (Load (Cell.Field m.at)) (cond b (behind m) (at_stage m (Shading (shade.opening (reference_in z.arena.layout v) m.held))))
+      by true e = passes (Cell.Field m.at) m (record {
         seat_is = seat_is;
         known = known;
         is_at = is_at;
         bits_are = h.bits_are;
-        clean = λ j l at p q. absurd (nil p (s.words (cell.Field (o + j))) (at-it j at) (eqb-true _ _ e) q);
+        clean = λ j l at p q. absurd (nil p (s.words (Cell.Field (o + j))) (at-it j at) (eqb-true _ _ e) q);
         hands = x;
       }) where
         nil : (p w : ℕ) → w ≡ v → v ≡ 0 → w ≡ p + 1 → ⊥
@@ -133,10 +125,10 @@ module _ (k : Known) (z : Cycle) (a : ℕ) (s : Shared) (rest : InHand) (g : Goo
           let some : v ≢ 0 = λ n. absurd (cc (e, eq-eqb _ _ n)) in
           let is : v ≡ (v - 1) + 1 = omega arith in
           let since : s.since (v - 1) ≡ true = g.values.fields o h.k known h.pointer (v - 1) (is-v ∙ is) in
-          let there : KnowsObject z.arena.layout.pages (λ p. s.words (cell.Page p)) (bitmap_words s.words) s.extents (v - 1) = objects (v - 1) since in
+          let there : KnowsObject z.arena.layout.pages (λ p. s.words (Cell.Page p)) (bitmap_words s.words) s.extents (v - 1) = objects (v - 1) since in
           let within : v - 1 < 1024 * z.arena.layout.pages = omega (arith, there.within, there.some) in
           let reference : reference_in z.arena.layout v ≡ v = ap (λ (n : ℕ). n + 1) (mod-eq_of_lt within) ∙ sym is in
-          still (cell.Field m.at) (at_stage m (Shading (shade.opening (reference_in z.arena.layout v) m.held))) (record {
+          still (Cell.Field m.at) (at_stage m (Shading (shade.opening (reference_in z.arena.layout v) m.held))) (record {
             seat_is = seat_is;
             known = known;
             stage_is = (
@@ -177,9 +169,9 @@ module _ (k : Known) (z : Cycle) (a : ℕ) (s : Shared) (rest : InHand) (g : Goo
         some : 1 ≤ (shade.goes sh f).reference
         some = facts.some
 
-        clean : IsClean (mark_words t.words) (t.words (cell.Field m.at))
+        clean : IsClean (mark_words t.words) (t.words (Cell.Field m.at))
         clean = elim at-then.stands [ inr c ↦ c | inl w ↦ named w ] where
-          named : t.words (cell.Field m.at) ≡ (shade.goes sh f).reference → IsClean (mark_words t.words) (t.words (cell.Field m.at))
+          named : t.words (Cell.Field m.at) ≡ (shade.goes sh f).reference → IsClean (mark_words t.words) (t.words (Cell.Field m.at))
           named w p q =
               let same : shade.object_of (shade.goes sh f).reference ≡ p = omega (arith, some, w, q) in
               subst (λ (x : ℕ). IsMarked (mark_words t.words) x) same shaded.marked
@@ -190,7 +182,7 @@ module _ (k : Known) (z : Cycle) (a : ℕ) (s : Shared) (rest : InHand) (g : Goo
           known = known-then;
           is_at = at-then.is_at;
           bits_are = at-then.is_field.bits_are;
-          clean = λ j l at. subst (λ (x : ℕ). IsClean (mark_words t.words) (t.words (cell.Field x))) (sym at) clean;
+          clean = λ j l at. subst (λ (x : ℕ). IsClean (mark_words t.words) (t.words (Cell.Field x))) (sym at) clean;
           hands = shaded.hands;
         }
       after f (Some WantsRoom) e is facts = landed (at_stage m (FindRoom (shade.goes sh f) (room.opening m.seat (shade.goes sh f).held))) (record { seat_is = seat_is; known = known-then; stage_is = (subst (λ (i : ℕ). Shades t o m.slot m.at m.bits (shade.goes sh i).reference) (sym is) (shades-then t keeps), waits.some, waits.marked, found) }) where
@@ -241,7 +233,7 @@ module _ (k : Known) (z : Cycle) (a : ℕ) (s : Shared) (rest : InHand) (g : Goo
   own-at LoadField x = field x.0 x.2 x.1
   own-at (Shading sh) x = shades sh x.0 x.1
   own-at (FindRoom sh r) x = finds sh x.0 r x.1 x.2 x.3
-  own-at (Ended words) x = still cell.Touch (at_stage m (Ended words)) (record { seat_is = seat_is; known = known; stage_is = x })
+  own-at (Ended words) x = still Cell.Touch (at_stage m (Ended words)) (record { seat_is = seat_is; known = known; stage_is = x })
 
 stage-lasts : (k : Known) (z : Cycle) (a : ℕ) (s t : Shared) (rest : InHand) (m : Scanning) (p : ScanStage) → Others z a s t → s.since (object_of m.reference) ≡ true → StageFacts z a s rest m p → StageFacts z a t rest m p
 stage-lasts k z a s t rest m LoadPage o known x = k.last z a s t (in_hand rest m.held (Some (object_of m.reference))) o x

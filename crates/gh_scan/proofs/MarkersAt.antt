@@ -1,17 +1,7 @@
 -- Where the scan is while marking is on: what it knows of the words that it is done with lasts, and it goes on behind a word or ends with a black object.
-use Rattle.std.proofs.Common.{◌≡◌, ◌≢◌, ℕ, zero, suc, ◌+◌, ◌-◌, ◌*◌, ◌/◌, ◌%◌, ◌<◌, ◌≤◌, Bool, true, false, cond, eqb, ltb, Option, Some, None, refl, sym, ap, subst, ◌∙◌, arith}
-use Rattle.std.specs.Prelude.{◌||◌}
+use Rattle.std.proofs.Common.{◌≡◌, ◌≢◌, ℕ, zero, suc, ◌+◌, ◌-◌, ◌*◌, ◌/◌, ◌%◌, ◌<◌, ◌≤◌, Bool, true, false, cond, eqb, ltb, Option, Some, None, refl, sym, ap, subst, ◌∙◌, arith, ◌||◌}
 use Rattle.std.proofs.lemmas.Bool.{eqb-true, eq-eqb, ltb-true, ltb-false}
-use Rattle.gh_base.specs.declared.cell.Cell.TheVariants as cell
-use Rattle.gh_base.specs.Rows.{field_words, mark_words}
-use Rattle.gh_marks.specs.Colours.{Cycle, IsClean, IsPointer, Shared, Taken}
-use Rattle.gh_marks.specs.Good.{Good}
-use Rattle.gh_marks.specs.Laws.{EachFactLasts, EachHandFollows, EachOwnMoveLeaves, FactsLast, WhatIsKeptGoesOn}
-use Rattle.gh_marks.specs.Moves.{Blacken, Keeps, Lands, SameExtent, lands_by, lands_still}
-use Rattle.gh_marks.specs.Seats.{Hands, InHand}
-use Rattle.gh_scan.specs.declared.scan.ScanStage.TheVariants.{LoadBitmap, LoadField, Ended}
-use Rattle.gh_scan.specs.Facts.{BitsAre, CleanBefore, Facts, IsAt, IsAtPointerField, Shades, in_hand}
-use Rattle.gh_scan.specs.Listing.{at_next, at_stage, behind, bit_says_pointer, end, is_loaded, loads_at, next_from, next_in, object_of, Scanning}
+use Rattle.gh_scan.proofs.Vocabulary.{at_next, at_stage, behind, bit_says_pointer, BitsAre, Blacken, Cell, CleanBefore, Cycle, EachFactLasts, EachHandFollows, EachOwnMoveLeaves, end, Ended, Facts, FactsLast, field_words, Good, Hands, in_hand, InHand, is_loaded, IsAt, IsAtPointerField, IsClean, IsPointer, Keeps, Lands, lands_by, lands_still, LoadBitmap, LoadField, loads_at, mark_words, next_from, next_in, object_of, SameExtent, Scanning, Shades, Shared, Taken, WhatIsKeptGoesOn}
 
 -- what the laws of gh_marks say, as far as it is of one seat's facts
 pub record KnownOfFacts : Type 0 where
@@ -97,7 +87,7 @@ module _ (k : KnownOfFacts) (z : Cycle) (a : ℕ) (t : Shared) (rest : InHand) (
     pub known : t.since o ≡ true
     pub is_at : IsAt t o n.slot n.at
     pub bits_are : BitsAre t.extents o n.bits n.at
-    pub clean : (j : ℕ) → IsPointer t.extents o j → o + j ≡ n.at → IsClean (mark_words t.words) (t.words (cell.Field (o + j)))
+    pub clean : (j : ℕ) → IsPointer t.extents o j → o + j ≡ n.at → IsClean (mark_words t.words) (t.words (Cell.Field (o + j)))
     pub hands : Hands a t (in_hand rest n.held (Some o))
 
   module _ (d : IsDone) where
@@ -118,7 +108,7 @@ module _ (k : KnownOfFacts) (z : Cycle) (a : ℕ) (t : Shared) (rest : InHand) (
           let not : bit_says_pointer n.bits (o + j) ≡ false = no-pointer n.bits (o + j) off in
           cc
 
-      by : (b c : Bool) → ltb (o + j) n.at ≡ b → eqb (o + j) n.at ≡ c → IsClean (mark_words t.words) (t.words (cell.Field (o + j)))
+      by : (b c : Bool) → ltb (o + j) n.at ≡ b → eqb (o + j) n.at ≡ c → IsClean (mark_words t.words) (t.words (Cell.Field (o + j)))
       by true c e f = d.is_at.clean j l (ltb-true _ _ e)
       by false true e f = d.clean j l (eqb-true _ _ f)
       by false false e f =
@@ -135,7 +125,7 @@ module _ (k : KnownOfFacts) (z : Cycle) (a : ℕ) (t : Shared) (rest : InHand) (
     blackens : Skips n.bits (n.at + 1) (end n) None → Goal (at_stage n (Ended n.slot))
     blackens none =
         let all : CleanBefore t.extents (mark_words t.words) (field_words t.words) o (end n) = clean-to (end n) (omega (arith, stop)) (λ y le lt. none y le lt) in
-        let may : (t.colour o ≡ Taken a) × ((j : ℕ) → IsPointer t.extents o j → IsClean (mark_words t.words) (t.words (cell.Field (o + j)))) = (taken, λ j l. all j l (omega (arith, l.0, d.is_at.slot_is))) in
+        let may : (t.colour o ≡ Taken a) × ((j : ℕ) → IsPointer t.extents o j → IsClean (mark_words t.words) (t.words (Cell.Field (o + j)))) = (taken, λ j l. all j l (omega (arith, l.0, d.is_at.slot_is))) in
         lands_by z a t t.words (λ u. Keeps z a t u × Facts z a u rest (at_stage n (Ended n.slot))) (Blacken o) may refl
         (k.leave z a t (Blacken o) g may tt, record { seat_is = d.seat_is; known = d.known; stage_is = (k.follow z a t (in_hand rest n.held (Some o)) g d.hands).blackened o refl })
 

@@ -1,6 +1,6 @@
 -- The first heap word for which something is loaded, word by word.
 use Rattle.std.proofs.Common.{◌≡◌, ℕ, suc, ◌+◌, ◌-◌, ◌<◌, ◌≤◌, Bool, true, false, cond, Some, None, ap, ◌∙◌, arith}
-use Rattle.gh_scan.specs.Listing.{is_loaded, next_from, next_in}
+use Rattle.gh_scan.proofs.Vocabulary.{is_loaded, next_from, next_in}
 
 left_is : (end x : ℕ) → x < end → end - x ≡ suc (end - (x + 1))
 left_is end x lt = omega arith

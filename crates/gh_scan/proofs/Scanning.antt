@@ -1,18 +1,7 @@
 -- The scan of an object, word by word: at each stage, what was shaded and what is left make the references of the slot.
 use Rattle.std.proofs.Common.{◌≡◌, ℕ, zero, suc, ◌+◌, ◌-◌, ◌*◌, ◌/◌, ◌%◌, ◌<◌, ◌≤◌, ◌==◌, ◌||◌, Bool, true, false, cond, List, [], ◌∷◌, ◌++◌, Option, Some, None, refl, sym, ap, subst, ◌∙◌, arith}
 use Rattle.std.proofs.lemmas.Grind.{common_steps}
-use Rattle.gh_base.specs.declared.cell.Ask.TheVariants.{Load}
-use Rattle.gh_base.specs.declared.cell.Cell.TheVariants.{Touch, Page, Bitmap, Field}
-use Rattle.gh_base.specs.declared.held.Held.{Held}
-use Rattle.gh_base.specs.declared.layout.Layout.{Layout}
-use Rattle.gh_base.specs.Routines.{EndsWith}
-use Rattle.gh_base.specs.Rows.{Row}
-use Rattle.gh_scan.specs.declared.scan.ScanStage.{ScanStage}
-use Rattle.gh_scan.specs.declared.scan.ScanStage.TheVariants.{LoadPage, LoadBitmap, LoadField, Shading, FindRoom, Ended}
-use Rattle.gh_scan.specs.Listing.{after_room, after_shade, asks, asks_at, at_next, behind, bit_says_pointer, given, given_at, goes, goes_at, next_in, object_of, reference_in, Scanning, transitions}
-use Rattle.gh_scan.specs.Scans.{after, AreTold, begun, begun_between, bits_of, field_of, from, references_at, references_in, shaded_at, slot_told, StepsAt}
-use Rattle.gh_shade.specs.declared.shade.Shaded.{Shaded}
-use Rattle.gh_shade.specs.declared.shade.Shaded.TheVariants.{Done, WantsRoom}
+use Rattle.gh_scan.proofs.Vocabulary.{after, after_room, after_shade, AreTold, asks, asks_at, at_next, begun, begun_between, behind, bit_says_pointer, Bitmap, bits_of, Done, Ended, EndsWith, Field, field_of, FindRoom, from, given, given_at, goes, goes_at, Held, Layout, Load, LoadBitmap, LoadField, LoadPage, next_in, object_of, Page, reference_in, references_at, references_in, Row, Scanning, ScanStage, Shaded, shaded_at, Shading, slot_told, StepsAt, Touch, transitions, WantsRoom}
 use Rattle.gh_shade.specs.Listing as shade
 use Rattle.gh_wbuf.specs.RoomFinding as room
 

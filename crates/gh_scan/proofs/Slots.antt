@@ -1,8 +1,6 @@
 -- A slot has a word, whatever page word is found.
 use Rattle.std.proofs.Common.{ℕ, ◌<◌, ◌≤◌, arith}
-use Rattle.gh_base.specs.declared.pack.PageWord.{PageWord}
-use Rattle.gh_base.specs.Packing.{FitsPage, slot_in}
-use Rattle.gh_class.specs.Classes.{slot_of}
+use Rattle.gh_scan.proofs.Vocabulary.{FitsPage, PageWord, slot_in, slot_of}
 
 module _ (least : (c : ℕ) → c < 25 → 8 ≤ slot_of c) where
   pub some_word : (page : PageWord) → FitsPage page → 1 ≤ slot_in page

@@ -1,14 +1,10 @@
 -- The scan of an object stays sound, and its steps lie in the heap: by its stages. Of shading and of the search for room it is known that they are routines.
 use Rattle.std.proofs.Common.{◌≡◌, ℕ, ◌+◌, ◌-◌, ◌^◌, ◌<◌, ◌≤◌, Bool, true, false, cond, Option, Some, refl, arith}
 use Rattle.std.proofs.lemmas.Bool.Decides.{nat_tests}
+use Rattle.gh_scan.proofs.Vocabulary.{after_room, after_shade, at_next, behind, bit_says_pointer, Done, end, FindRoom, FitsPage, goes_at, Held, Layout, listing, LoadBitmap, LoadField, LoadPage, next_from, page_of, PageWord, Scanning, ScanStage, Shaded, Shading, slot_in, slot_of}
 use Rattle.gh_base.specs.Machines.{IsRoutine}
-use Rattle.gh_base.specs.Packing.{FitsPage, page_of, slot_in}
-use Rattle.gh_base.specs.declared.pack.PageWord.{PageWord}
-use Rattle.gh_class.specs.Classes.{slot_of}
-use Rattle.gh_scan.specs.Listing.{listing}
 use Rattle.gh_scan.specs.Sound.{SoundScanning, SoundStage}
 use Rattle.gh_scan.proofs.Order.{Between, next_between}
-use Rattle.gh_scan.proofs.Vocabulary.{after_room, after_shade, at_next, behind, bit_says_pointer, Done, end, FindRoom, goes_at, Held, Layout, LoadBitmap, LoadField, LoadPage, next_from, Scanning, ScanStage, Shaded, Shading}
 use Rattle.gh_shade.specs.declared.shade.ShadeStage.TheVariants.{WaitForRoom}
 use Rattle.gh_shade.specs.Listing as shade
 use Rattle.gh_shade.specs.Sound.{SoundShading}

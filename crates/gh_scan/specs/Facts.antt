@@ -1,13 +1,9 @@
 -- What is known at each stage of the scan of an object while marking is on. The seat has taken the object, so nobody else scans it. The pointer fields before the word that the scan is at are clean, and a store by whomever leaves them so; so behind the last word the object is black.
 use Rattle.std.specs.Prelude.{◌≡◌, ℕ, ◌+◌, ◌/◌, ◌<◌, ◌≤◌, ◌⊎◌, true, Option, Some, None}
-use Rattle.gh_base.specs.declared.cell.Cell.TheVariants as cell
-use Rattle.gh_base.specs.declared.held.Held.{Held}
-use Rattle.gh_base.specs.Rows.{Row, field_words, mark_words}
+use Rattle.gh_scan.specs.Vocabulary.{Cell, Ended, field_words, FindRoom, Held, LoadBitmap, LoadField, LoadPage, mark_words, Row, ScanStage, Shading}
 use Rattle.gh_marks.specs.Colours.{Cycle, Extents, IsClean, IsMarked, IsPointer, Shared}
 use Rattle.gh_marks.specs.Routines.{KeepsItsFacts}
 use Rattle.gh_marks.specs.Seats.{Hands, InHand}
-use Rattle.gh_scan.specs.declared.scan.ScanStage.{ScanStage}
-use Rattle.gh_scan.specs.declared.scan.ScanStage.TheVariants.{LoadPage, LoadBitmap, LoadField, Shading, FindRoom, Ended}
 use Rattle.gh_scan.specs.Listing.{bit_says_pointer, gives, goes, listing, object_of, opening, Scanning}
 use Rattle.gh_shade.specs.Facts as shade_facts
 use Rattle.gh_shade.specs.Listing as shade
@@ -37,7 +33,7 @@ pub record IsAtPointerField (s : Shared) (o bits at : ℕ) : Type 0 where
 
 -- what it found there stands there still, or the word that came in its place is clean
 abbrev pub FoundStillStands : Shared → (at reference : ℕ) → Type 0
-FoundStillStands s at reference = (s.words (cell.Field at) ≡ reference) ⊎ IsClean (mark_words s.words) (s.words (cell.Field at))
+FoundStillStands s at reference = (s.words (Cell.Field at) ≡ reference) ⊎ IsClean (mark_words s.words) (s.words (Cell.Field at))
 
 -- what the seat has in hand
 abbrev pub in_hand : InHand → Option Held → (scanning : Option ℕ) → InHand

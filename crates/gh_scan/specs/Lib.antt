@@ -3,3 +3,4 @@ pub mod Listing
 pub mod Quiet
 pub mod Scans
 pub mod Sound
+pub mod Vocabulary

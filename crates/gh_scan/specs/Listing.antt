@@ -1,22 +1,13 @@
 -- The scan of an object: what is asked for at each stage, where that leads, and what it gives.
 use Rattle.std.specs.Prelude.{ℕ, zero, suc, ◌+◌, ◌-◌, ◌*◌, ◌/◌, ◌%◌, Bool, true, ◌==◌, ◌||◌, if◌then◌else◌, Option, Some, None, is_none}
 use Rattle.std.specs.Int.{bit_at}
-use Rattle.gh_base.specs.declared.cell.Cell.TheVariants.{Touch, Page, Bitmap, Field}
+use Rattle.gh_scan.specs.Vocabulary.{Bitmap, Done, Ended, Field, FindRoom, Held, Layout, Listing, Load, LoadBitmap, LoadField, LoadPage, Page, page_of, Scan, ScanStage, Shading, slot_in, steps_of, Touch, WantsRoom}
 use Rattle.gh_base.specs.declared.cell.Ask.{Ask}
-use Rattle.gh_base.specs.declared.cell.Ask.TheVariants.{Load}
-use Rattle.gh_base.specs.declared.held.Held.{Held}
-use Rattle.gh_base.specs.declared.layout.Layout.{Layout}
 use Rattle.gh_base.specs.Footprints.{Footprint}
 use Rattle.gh_base.specs.Footprints as row
-use Rattle.gh_base.specs.Machines.{Listing, steps_of}
-use Rattle.gh_base.specs.Packing.{page_of, slot_in}
 use Rattle.gh_base.specs.Routines as routine
 use Rattle.gh_scan.specs.Sound.{SoundScanning}
-use Rattle.gh_scan.specs.declared.scan.Scan.{Scan}
-use Rattle.gh_scan.specs.declared.scan.ScanStage.{ScanStage}
-use Rattle.gh_scan.specs.declared.scan.ScanStage.TheVariants.{LoadPage, LoadBitmap, LoadField, Shading, FindRoom, Ended}
 use Rattle.gh_shade.specs.declared.shade.Shaded.{Shaded}
-use Rattle.gh_shade.specs.declared.shade.Shaded.TheVariants.{Done, WantsRoom}
 use Rattle.gh_shade.specs.Listing as shade
 use Rattle.gh_wbuf.specs.RoomFinding as room
 

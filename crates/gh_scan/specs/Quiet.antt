@@ -1,5 +1,5 @@
 -- The routines of marking write no word of the handshake.
-use Rattle.gh_base.specs.declared.layout.Layout.{Layout}
+use Rattle.gh_scan.specs.Vocabulary.{Layout}
 use Rattle.gh_phase.specs.Handshake.{IsQuietInHandshake}
 use Rattle.gh_scan.specs.Listing as scan
 use Rattle.gh_shade.specs.Listing as shade

@@ -1,19 +1,9 @@
 -- What the scan of an object does, whatever it is told: which references it has shaded, and what it ends with.
 use Rattle.std.specs.Prelude.{◌≡◌, ◌≢◌, ◌↔◌, ℕ, zero, suc, ◌+◌, ◌*◌, ◌/◌, ◌%◌, ◌^◌, ◌<◌, ◌≤◌, false, ◌==◌, if◌then◌else◌, List, [], ◌∷◌, ◌++◌, Option, Some, None}
-use Rattle.gh_base.specs.declared.cell.Cell.{Cell}
-use Rattle.gh_base.specs.declared.cell.Cell.TheVariants.{Page, Bitmap, Field}
-use Rattle.gh_base.specs.declared.cell.Ask.TheVariants.{Load}
-use Rattle.gh_base.specs.declared.held.Held.{Held}
-use Rattle.gh_base.specs.declared.layout.Layout.{Layout}
-use Rattle.gh_base.specs.Cells.{put, Words}
-use Rattle.gh_base.specs.Packing.{page_of, slot_in}
+use Rattle.gh_scan.specs.Vocabulary.{Bitmap, bitmap_words, Cell, Done, Field, field_words, FindRoom, Held, Layout, Load, LoadBitmap, LoadField, Page, page_of, pointer_bit, put, Row, ScanStage, Shading, slot_in, WantsRoom, Words}
 use Rattle.gh_base.specs.Routines.{EndsWith, GoesOn, told}
-use Rattle.gh_base.specs.Rows.{bitmap_words, field_words, pointer_bit, Row}
 use Rattle.gh_base.specs.Steps.{cell_of}
-use Rattle.gh_scan.specs.declared.scan.ScanStage.{ScanStage}
-use Rattle.gh_scan.specs.declared.scan.ScanStage.TheVariants.{LoadBitmap, LoadField, Shading, FindRoom}
 use Rattle.gh_scan.specs.Listing.{asks, bit_says_pointer, goes, is_loaded, object_of, opening, reference_in, Scanning, transitions}
-use Rattle.gh_shade.specs.declared.shade.Shaded.TheVariants.{Done, WantsRoom}
 use Rattle.gh_shade.specs.Listing as shade
 use Rattle.gh_wbuf.specs.RoomFinding as room
 

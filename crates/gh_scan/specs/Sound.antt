@@ -1,12 +1,7 @@
 -- What the scan of an object knows of its own numbers, whatever it is told.
 use Rattle.std.specs.Prelude.{◌≡◌, ◌^◌, ◌<◌}
-use Rattle.gh_base.specs.declared.layout.Layout.{Layout}
-use Rattle.gh_base.specs.Cells.{seats_of}
+use Rattle.gh_scan.specs.Vocabulary.{FindRoom, Layout, Runs, Scan, ScanStage, seats_of, Shading}
 use Rattle.gh_base.specs.Holding.{IsHeld}
-use Rattle.gh_base.specs.Machines.{Runs}
-use Rattle.gh_scan.specs.declared.scan.Scan.{Scan}
-use Rattle.gh_scan.specs.declared.scan.ScanStage.{ScanStage}
-use Rattle.gh_scan.specs.declared.scan.ScanStage.TheVariants.{Shading, FindRoom}
 use Rattle.gh_shade.specs.declared.shade.ShadeStage.TheVariants.{WaitForRoom}
 use Rattle.gh_shade.specs.Listing as shade
 use Rattle.gh_shade.specs.Sound.{IsReference, SoundShading}

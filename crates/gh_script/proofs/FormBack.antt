@@ -1,8 +1,6 @@
 -- A text that has the form of a script spells it: each of its lines is taken in its turn.
 use Rattle.std.proofs.Common.{◌≡◌, ℕ, zero, suc, ◌+◌, ◌<◌, ◌≤◌, Bool, true, false, not, cond, eqb, leb, ◌&&◌, List, [], ◌∷◌, ◌++◌, length, map, Option, Some, None, Result, Ok, refl, sym, ap, ◌∙◌, subst, append_assoc, arith, get_or, All, is_some, fold, ◌≢◌, AllPairs, sum_by, le-ltb, append-nil, length-append}
-use Rattle.gh_base.specs.declared.shape.Shape.{Shape}
-use Rattle.gh_script.specs.declared.key.Key.TheVariants as keys
-use Rattle.gh_script.proofs.Vocabulary.{All-head, All-tail, are_too_many, AreApart, AreNamedApart, blank_draft, Block, bytes_eq, bytes_eq-Decides, cause_at, continued, Draft, fields_of, fits_limits, flat_map, get_or_append_left, get_or_at, Given, given_at, given_by_key, go_on, Goroutine, goroutine_by, goroutines_begun, has_goroutine, HasForm, inside, is_skipped, IsBlock, IsHead, IsHeadKey, IsRoutine, IsTaken, IsTakenAs, kept, Key, key_of, length-map, length_push, lines_in, lines_of, list_any, lt-leb, names_by, Nothing, number_in, Open, option_map, option_to_list, position_or_len, position_or_len_is, Program, program_in, read_end, read_key, read_line, read_lines, Repeat, repeat, Repeated, Routine, routine_lines, said_in, Say, sayings, ScriptFault, Sentence, Setting, Settings, settings_by, settings_in, shape_with, shapes_by, Spells, statement_by_key, statement_of, statements_by, statements_in, Stmt, sum_by-append, then_end, type_of, with_given, with_statement, written_out}
+use Rattle.gh_script.proofs.Vocabulary.{All-head, All-tail, are_too_many, AreApart, AreNamedApart, blank_draft, Block, bytes_eq, bytes_eq-Decides, cause_at, continued, Draft, fields_of, fits_limits, flat_map, get_or_append_left, get_or_at, Given, given_at, given_by_key, go_on, Goroutine, goroutine_by, goroutines_begun, has_goroutine, HasForm, inside, is_skipped, IsBlock, IsHead, IsHeadKey, IsRoutine, IsTaken, IsTakenAs, kept, Key, key_of, length-map, length_push, lines_in, lines_of, list_any, lt-leb, names_by, Nothing, number_in, Open, option_map, option_to_list, position_or_len, position_or_len_is, Program, program_in, read_end, read_key, read_line, read_lines, Repeat, repeat, Repeated, Routine, routine_lines, said_in, Say, sayings, ScriptFault, Sentence, Setting, Settings, settings_by, settings_in, Shape, shape_with, shapes_by, Spells, statement_by_key, statement_of, statements_by, statements_in, Stmt, sum_by-append, then_end, type_of, with_given, with_statement, written_out}
 use Rattle.gh_script.proofs.Allowed.{allowed, left_false, times_fit}
 use Rattle.gh_script.proofs.Written.{kept_some, written_behind, some_repeat, ended_repeat}
 use Rattle.gh_script.proofs.Readings.{reading_of-text}
@@ -43,7 +41,7 @@ record Ready (draft : Draft) (rest : List Sentence) : Type 0 where
   heads : All IsHead rest
   taken : All (IsTaken blank_draft) rest
   once : AllPairs AreApart rest
-  fresh : All (λ line. (x : Setting) → key_of line.first ≡ Some (keys.Setting x) → is_some (given_at draft.given x) ≡ false) rest
+  fresh : All (λ line. (x : Setting) → key_of line.first ≡ Some (Key.Setting x) → is_some (given_at draft.given x) ≡ false) rest
   apart : AllPairs (λ a b. a ≢ b) (draft.names ++ names_by rest)
   few : length (draft.names ++ names_by rest) ≤ 64
   begun : goroutines_begun draft ≡ 0
@@ -75,16 +73,16 @@ new_name names more word apart k d lt same =
     let two : get_or (names ++ word ∷ more) (length names) d ≡ word = get_or_at names word more d (length names) refl in
     apart k (length names) d lt (omega (arith, length-append names (word ∷ more))) (one ∙ same ∙ sym two)
 
-names_set : (x : Setting) (l : Sentence) (ls : List Sentence) → key_of l.first ≡ Some (keys.Setting x) → names_by (l ∷ ls) ≡ names_by ls
+names_set : (x : Setting) (l : Sentence) (ls : List Sentence) → key_of l.first ≡ Some (Key.Setting x) → names_by (l ∷ ls) ≡ names_by ls
 names_set x l ls e = rw e refl
 
-shapes_set : (x : Setting) (l : Sentence) (ls : List Sentence) → key_of l.first ≡ Some (keys.Setting x) → shapes_by (l ∷ ls) ≡ shapes_by ls
+shapes_set : (x : Setting) (l : Sentence) (ls : List Sentence) → key_of l.first ≡ Some (Key.Setting x) → shapes_by (l ∷ ls) ≡ shapes_by ls
 shapes_set x l ls e = rw e refl
 
-names_type : (l : Sentence) (ls : List Sentence) → key_of l.first ≡ Some keys.Type → names_by (l ∷ ls) ≡ l.second ∷ names_by ls
+names_type : (l : Sentence) (ls : List Sentence) → key_of l.first ≡ Some Key.Type → names_by (l ∷ ls) ≡ l.second ∷ names_by ls
 names_type l ls e = rw e refl
 
-shapes_type : (l : Sentence) (ls : List Sentence) → key_of l.first ≡ Some keys.Type → shapes_by (l ∷ ls) ≡ shape_with (fields_of l.third) ∷ shapes_by ls
+shapes_type : (l : Sentence) (ls : List Sentence) → key_of l.first ≡ Some Key.Type → shapes_by (l ∷ ls) ≡ shape_with (fields_of l.third) ∷ shapes_by ls
 shapes_type l ls e = rw e refl
 
 abbrev gives : Given → Sentence → Given
@@ -96,45 +94,45 @@ made draft given names shapes = record draft { given = given; names = names; sha
 made_same : (draft : Draft) (g h : Given) (ns ms : List (List ℕ)) (ss ts : List Shape) → g ≡ h → ns ≡ ms → ss ≡ ts → made draft g ns ss ≡ made draft h ms ts
 made_same draft g h ns ms ss ts p q r = ap (λ (x : Given). made draft x ns ss) p ∙ ap (λ (x : List (List ℕ)). made draft h x ss) q ∙ ap (λ (x : List Shape). made draft h ms x) r
 
-set_step : (draft : Draft) (x : Setting) (l : Sentence) (ls : List Sentence) → key_of l.first ≡ Some (keys.Setting x) → Ready draft (l ∷ ls) → ((next : Draft) → Ready next ls → Steps next ls (head_end next ls)) → Steps draft (l ∷ ls) (head_end draft (l ∷ ls))
+set_step : (draft : Draft) (x : Setting) (l : Sentence) (ls : List Sentence) → key_of l.first ≡ Some (Key.Setting x) → Ready draft (l ∷ ls) → ((next : Draft) → Ready next ls → Steps next ls (head_end next ls)) → Steps draft (l ∷ ls) (head_end draft (l ∷ ls))
 unfolding continued
 set_step draft x l ls e r rest =
-    let a = allowed blank_draft (keys.Setting x) l (All-head (IsTaken blank_draft) l ls r.taken (keys.Setting x) e) in
-    let c : cause_at draft (keys.Setting x) l ≡ None = cause_none draft (keys.Setting x) l (record {
+    let a = allowed blank_draft (Key.Setting x) l (All-head (IsTaken blank_draft) l ls r.taken (Key.Setting x) e) in
+    let c : cause_at draft (Key.Setting x) l ≡ None = cause_none draft (Key.Setting x) l (record {
       word = a.word;
       number = a.number;
       limit = a.limit;
-      twice = All-head (λ line. (y : Setting) → key_of line.first ≡ Some (keys.Setting y) → is_some (given_at draft.given y) ≡ false) l ls r.fresh x e;
+      twice = All-head (λ line. (y : Setting) → key_of line.first ≡ Some (Key.Setting y) → is_some (given_at draft.given y) ≡ false) l ls r.fresh x e;
       unknown = refl;
       nesting = lt-leb 1 (goroutines_begun draft) (omega (arith, r.begun));
     }) in
     let n = number_in l.second in
-    let same : head_end (continued draft (keys.Setting x) l) ls ≡ head_end draft (l ∷ ls) =
+    let same : head_end (continued draft (Key.Setting x) l) ls ≡ head_end draft (l ∷ ls) =
     made_same draft (fold gives (with_given draft.given x (number_in l.second)) ls) (fold gives draft.given (l ∷ ls)) (draft.names ++ names_by ls) (draft.names ++ names_by (l ∷ ls)) (draft.shapes ++ shapes_by ls) (draft.shapes ++ shapes_by (l ∷ ls))
     (ap (λ (g : Given). fold gives g ls) (sym (ap (given_by_key draft.given l) e)))
     (ap (λ (ns : List (List ℕ)). draft.names ++ ns) (sym (names_set x l ls e)))
     (ap (λ (ss : List Shape). draft.shapes ++ ss) (sym (shapes_set x l ls e))) in
-    let ready : Ready (continued draft (keys.Setting x) l) ls = record {
+    let ready : Ready (continued draft (Key.Setting x) l) ls = record {
       heads = All-tail IsHead l ls r.heads;
       taken = All-tail (IsTaken blank_draft) l ls r.taken;
       once = pairs_tail AreApart l ls r.once;
       fresh = λ k d lt y f. other_fresh draft.given x (number_in l.second) y
-          (λ equal. pairs_head AreApart l ls r.once k d lt y (e ∙ ap (λ (z : Setting). Some (keys.Setting z)) equal) f)
-          (All-tail (λ line. (z : Setting) → key_of line.first ≡ Some (keys.Setting z) → is_some (given_at draft.given z) ≡ false) l ls r.fresh k d lt y f);
+          (λ equal. pairs_head AreApart l ls r.once k d lt y (e ∙ ap (λ (z : Setting). Some (Key.Setting z)) equal) f)
+          (All-tail (λ line. (z : Setting) → key_of line.first ≡ Some (Key.Setting z) → is_some (given_at draft.given z) ≡ false) l ls r.fresh k d lt y f);
       apart = subst (λ (ns : List (List ℕ)). AllPairs (λ a b. a ≢ b) (draft.names ++ ns)) (names_set x l ls e) r.apart;
       few = subst (λ (ns : List (List ℕ)). length (draft.names ++ ns) ≤ 64) (names_set x l ls e) r.few;
       begun = r.begun;
     } in
-    (keys.Setting x, e, c, subst (λ (d : Draft). Steps (continued draft (keys.Setting x) l) ls d) same (rest (continued draft (keys.Setting x) l) ready))
+    (Key.Setting x, e, c, subst (λ (d : Draft). Steps (continued draft (Key.Setting x) l) ls d) same (rest (continued draft (Key.Setting x) l) ready))
 
-type_step : (draft : Draft) (l : Sentence) (ls : List Sentence) → key_of l.first ≡ Some keys.Type → Ready draft (l ∷ ls) → ((next : Draft) → Ready next ls → Steps next ls (head_end next ls)) → Steps draft (l ∷ ls) (head_end draft (l ∷ ls))
+type_step : (draft : Draft) (l : Sentence) (ls : List Sentence) → key_of l.first ≡ Some Key.Type → Ready draft (l ∷ ls) → ((next : Draft) → Ready next ls → Steps next ls (head_end next ls)) → Steps draft (l ∷ ls) (head_end draft (l ∷ ls))
 unfolding continued
 type_step draft l ls e r rest =
-    let a = allowed blank_draft keys.Type l (All-head (IsTaken blank_draft) l ls r.taken keys.Type e) in
+    let a = allowed blank_draft Key.Type l (All-head (IsTaken blank_draft) l ls r.taken Key.Type e) in
     let apart : AllPairs (λ a b. a ≢ b) (draft.names ++ l.second ∷ names_by ls) = subst (λ (ns : List (List ℕ)). AllPairs (λ a b. a ≢ b) (draft.names ++ ns)) (names_type l ls e) r.apart in
     let few : length (draft.names ++ l.second ∷ names_by ls) ≤ 64 = subst (λ (ns : List (List ℕ)). length (draft.names ++ ns) ≤ 64) (names_type l ls e) r.few in
     let below : length draft.names < 64 = omega (arith, length-append draft.names (l.second ∷ names_by ls)) in
-    let c : cause_at draft keys.Type l ≡ None = cause_none draft keys.Type l (record {
+    let c : cause_at draft Key.Type l ≡ None = cause_none draft Key.Type l (record {
       word = a.word;
       number = a.number;
       limit = or_false (not (fits_limits l.third)) (leb 64 (length draft.names)) (left_false (not (fits_limits l.third)) _ a.limit) (lt-leb 64 (length draft.names) below);
@@ -143,27 +141,27 @@ type_step draft l ls e r rest =
       nesting = lt-leb 1 (goroutines_begun draft) (omega (arith, r.begun));
     }) in
     let names : (draft.names ++ l.second ∷ []) ++ names_by ls ≡ draft.names ++ l.second ∷ names_by ls = append_assoc draft.names (l.second ∷ []) (names_by ls) in
-    let same : head_end (continued draft keys.Type l) ls ≡ head_end draft (l ∷ ls) =
+    let same : head_end (continued draft Key.Type l) ls ≡ head_end draft (l ∷ ls) =
     made_same draft (fold gives draft.given ls) (fold gives draft.given (l ∷ ls)) ((draft.names ++ l.second ∷ []) ++ names_by ls) (draft.names ++ names_by (l ∷ ls))
     ((draft.shapes ++ shape_with (fields_of l.third) ∷ []) ++ shapes_by ls) (draft.shapes ++ shapes_by (l ∷ ls))
     (ap (λ (g : Given). fold gives g ls) (sym (ap (given_by_key draft.given l) e)))
     (names ∙ ap (λ (ns : List (List ℕ)). draft.names ++ ns) (sym (names_type l ls e)))
     (append_assoc draft.shapes (shape_with (fields_of l.third) ∷ []) (shapes_by ls) ∙ ap (λ (ss : List Shape). draft.shapes ++ ss) (sym (shapes_type l ls e))) in
-    let ready : Ready (continued draft keys.Type l) ls = record {
+    let ready : Ready (continued draft Key.Type l) ls = record {
       heads = All-tail IsHead l ls r.heads;
       taken = All-tail (IsTaken blank_draft) l ls r.taken;
       once = pairs_tail AreApart l ls r.once;
-      fresh = All-tail (λ line. (z : Setting) → key_of line.first ≡ Some (keys.Setting z) → is_some (given_at draft.given z) ≡ false) l ls r.fresh;
+      fresh = All-tail (λ line. (z : Setting) → key_of line.first ≡ Some (Key.Setting z) → is_some (given_at draft.given z) ≡ false) l ls r.fresh;
       apart = subst (λ (ns : List (List ℕ)). AllPairs (λ a b. a ≢ b) ns) (sym names) apart;
       few = subst (λ (ns : List (List ℕ)). length ns ≤ 64) (sym names) few;
       begun = r.begun;
     } in
-    (keys.Type, e, c, subst (λ (d : Draft). Steps (continued draft keys.Type l) ls d) same (rest (continued draft keys.Type l) ready))
+    (Key.Type, e, c, subst (λ (d : Draft). Steps (continued draft Key.Type l) ls d) same (rest (continued draft Key.Type l) ready))
 
 head_by_key : (draft : Draft) (l : Sentence) (ls : List Sentence) (key : Option Key) → key_of l.first ≡ key → IsHeadKey key → Ready draft (l ∷ ls) → ((next : Draft) → Ready next ls → Steps next ls (head_end next ls)) → Steps draft (l ∷ ls) (head_end draft (l ∷ ls))
 head_by_key draft l ls None e h r rest = absurd h
-head_by_key draft l ls (Some (keys.Setting x)) e h r rest = set_step draft x l ls e r rest
-head_by_key draft l ls (Some keys.Type) e h r rest = type_step draft l ls e r rest
+head_by_key draft l ls (Some (Key.Setting x)) e h r rest = set_step draft x l ls e r rest
+head_by_key draft l ls (Some Key.Type) e h r rest = type_step draft l ls e r rest
 head_by_key draft l ls (Some key) e h r rest = absurd h
 
 head_steps : (draft : Draft) (rest : List Sentence) → Ready draft rest → Steps draft rest (head_end draft rest)
@@ -192,50 +190,50 @@ say_by_key : (draft : Draft) (name : List ℕ) (ss : List Stmt) (repeats : List 
     → Steps (at draft name ss repeats) (l ∷ []) (at draft name (ss ++ option_to_list (statement_by_key draft.names l (key_of l.first))) repeats)
 unfolding continued
 say_by_key draft name ss repeats l None s e is t few = absurd cc
-say_by_key draft name ss repeats l (Some (keys.Setting x)) s e is t few = absurd cc
-say_by_key draft name ss repeats l (Some keys.Type) s e is t few = absurd cc
-say_by_key draft name ss repeats l (Some keys.Go) s e is t few = absurd cc
-say_by_key draft name ss repeats l (Some keys.Repeat) s e is t few = absurd cc
-say_by_key draft name ss repeats l (Some keys.End) s e is t few = absurd cc
-say_by_key draft name ss repeats l (Some keys.New) s e is t few =
-    let a = allowed (inside draft.given draft.names) keys.New l (t keys.New e) in
-    say_step draft name ss repeats keys.New l e (cause_none (at draft name ss repeats) keys.New l (record { word = a.word; number = a.number; limit = a.limit; twice = a.twice; unknown = a.unknown; nesting = refl })) refl few
-say_by_key draft name ss repeats l (Some keys.Load) s e is t few =
-    let a = allowed (inside draft.given draft.names) keys.Load l (t keys.Load e) in
-    say_step draft name ss repeats keys.Load l e (cause_none (at draft name ss repeats) keys.Load l (record { word = a.word; number = a.number; limit = a.limit; twice = a.twice; unknown = a.unknown; nesting = refl })) refl few
-say_by_key draft name ss repeats l (Some keys.Store) s e is t few =
-    let a = allowed (inside draft.given draft.names) keys.Store l (t keys.Store e) in
-    say_step draft name ss repeats keys.Store l e (cause_none (at draft name ss repeats) keys.Store l (record { word = a.word; number = a.number; limit = a.limit; twice = a.twice; unknown = a.unknown; nesting = refl })) refl few
-say_by_key draft name ss repeats l (Some keys.GetGlobal) s e is t few =
-    let a = allowed (inside draft.given draft.names) keys.GetGlobal l (t keys.GetGlobal e) in
-    say_step draft name ss repeats keys.GetGlobal l e (cause_none (at draft name ss repeats) keys.GetGlobal l (record { word = a.word; number = a.number; limit = a.limit; twice = a.twice; unknown = a.unknown; nesting = refl })) refl few
-say_by_key draft name ss repeats l (Some keys.SetGlobal) s e is t few =
-    let a = allowed (inside draft.given draft.names) keys.SetGlobal l (t keys.SetGlobal e) in
-    say_step draft name ss repeats keys.SetGlobal l e (cause_none (at draft name ss repeats) keys.SetGlobal l (record { word = a.word; number = a.number; limit = a.limit; twice = a.twice; unknown = a.unknown; nesting = refl })) refl few
-say_by_key draft name ss repeats l (Some keys.Int) s e is t few =
-    let a = allowed (inside draft.given draft.names) keys.Int l (t keys.Int e) in
-    say_step draft name ss repeats keys.Int l e (cause_none (at draft name ss repeats) keys.Int l (record { word = a.word; number = a.number; limit = a.limit; twice = a.twice; unknown = a.unknown; nesting = refl })) refl few
-say_by_key draft name ss repeats l (Some keys.Move) s e is t few =
-    let a = allowed (inside draft.given draft.names) keys.Move l (t keys.Move e) in
-    say_step draft name ss repeats keys.Move l e (cause_none (at draft name ss repeats) keys.Move l (record { word = a.word; number = a.number; limit = a.limit; twice = a.twice; unknown = a.unknown; nesting = refl })) refl few
-say_by_key draft name ss repeats l (Some keys.Nil) s e is t few =
-    let a = allowed (inside draft.given draft.names) keys.Nil l (t keys.Nil e) in
-    say_step draft name ss repeats keys.Nil l e (cause_none (at draft name ss repeats) keys.Nil l (record { word = a.word; number = a.number; limit = a.limit; twice = a.twice; unknown = a.unknown; nesting = refl })) refl few
-say_by_key draft name ss repeats l (Some keys.Gc) s e is t few =
-    let a = allowed (inside draft.given draft.names) keys.Gc l (t keys.Gc e) in
-    say_step draft name ss repeats keys.Gc l e (cause_none (at draft name ss repeats) keys.Gc l (record { word = a.word; number = a.number; limit = a.limit; twice = a.twice; unknown = a.unknown; nesting = refl })) refl few
+say_by_key draft name ss repeats l (Some (Key.Setting x)) s e is t few = absurd cc
+say_by_key draft name ss repeats l (Some Key.Type) s e is t few = absurd cc
+say_by_key draft name ss repeats l (Some Key.Go) s e is t few = absurd cc
+say_by_key draft name ss repeats l (Some Key.Repeat) s e is t few = absurd cc
+say_by_key draft name ss repeats l (Some Key.End) s e is t few = absurd cc
+say_by_key draft name ss repeats l (Some Key.New) s e is t few =
+    let a = allowed (inside draft.given draft.names) Key.New l (t Key.New e) in
+    say_step draft name ss repeats Key.New l e (cause_none (at draft name ss repeats) Key.New l (record { word = a.word; number = a.number; limit = a.limit; twice = a.twice; unknown = a.unknown; nesting = refl })) refl few
+say_by_key draft name ss repeats l (Some Key.Load) s e is t few =
+    let a = allowed (inside draft.given draft.names) Key.Load l (t Key.Load e) in
+    say_step draft name ss repeats Key.Load l e (cause_none (at draft name ss repeats) Key.Load l (record { word = a.word; number = a.number; limit = a.limit; twice = a.twice; unknown = a.unknown; nesting = refl })) refl few
+say_by_key draft name ss repeats l (Some Key.Store) s e is t few =
+    let a = allowed (inside draft.given draft.names) Key.Store l (t Key.Store e) in
+    say_step draft name ss repeats Key.Store l e (cause_none (at draft name ss repeats) Key.Store l (record { word = a.word; number = a.number; limit = a.limit; twice = a.twice; unknown = a.unknown; nesting = refl })) refl few
+say_by_key draft name ss repeats l (Some Key.GetGlobal) s e is t few =
+    let a = allowed (inside draft.given draft.names) Key.GetGlobal l (t Key.GetGlobal e) in
+    say_step draft name ss repeats Key.GetGlobal l e (cause_none (at draft name ss repeats) Key.GetGlobal l (record { word = a.word; number = a.number; limit = a.limit; twice = a.twice; unknown = a.unknown; nesting = refl })) refl few
+say_by_key draft name ss repeats l (Some Key.SetGlobal) s e is t few =
+    let a = allowed (inside draft.given draft.names) Key.SetGlobal l (t Key.SetGlobal e) in
+    say_step draft name ss repeats Key.SetGlobal l e (cause_none (at draft name ss repeats) Key.SetGlobal l (record { word = a.word; number = a.number; limit = a.limit; twice = a.twice; unknown = a.unknown; nesting = refl })) refl few
+say_by_key draft name ss repeats l (Some Key.Int) s e is t few =
+    let a = allowed (inside draft.given draft.names) Key.Int l (t Key.Int e) in
+    say_step draft name ss repeats Key.Int l e (cause_none (at draft name ss repeats) Key.Int l (record { word = a.word; number = a.number; limit = a.limit; twice = a.twice; unknown = a.unknown; nesting = refl })) refl few
+say_by_key draft name ss repeats l (Some Key.Move) s e is t few =
+    let a = allowed (inside draft.given draft.names) Key.Move l (t Key.Move e) in
+    say_step draft name ss repeats Key.Move l e (cause_none (at draft name ss repeats) Key.Move l (record { word = a.word; number = a.number; limit = a.limit; twice = a.twice; unknown = a.unknown; nesting = refl })) refl few
+say_by_key draft name ss repeats l (Some Key.Nil) s e is t few =
+    let a = allowed (inside draft.given draft.names) Key.Nil l (t Key.Nil e) in
+    say_step draft name ss repeats Key.Nil l e (cause_none (at draft name ss repeats) Key.Nil l (record { word = a.word; number = a.number; limit = a.limit; twice = a.twice; unknown = a.unknown; nesting = refl })) refl few
+say_by_key draft name ss repeats l (Some Key.Gc) s e is t few =
+    let a = allowed (inside draft.given draft.names) Key.Gc l (t Key.Gc e) in
+    say_step draft name ss repeats Key.Gc l e (cause_none (at draft name ss repeats) Key.Gc l (record { word = a.word; number = a.number; limit = a.limit; twice = a.twice; unknown = a.unknown; nesting = refl })) refl few
 
-opens_none : (draft : Draft) (name : List ℕ) (ss : List Stmt) (repeats : List Repeat) (l : Sentence) → cause_at (inside draft.given draft.names) keys.Repeat l ≡ None → length repeats < 8 → cause_at (at draft name ss repeats) keys.Repeat l ≡ None
+opens_none : (draft : Draft) (name : List ℕ) (ss : List Stmt) (repeats : List Repeat) (l : Sentence) → cause_at (inside draft.given draft.names) Key.Repeat l ≡ None → length repeats < 8 → cause_at (at draft name ss repeats) Key.Repeat l ≡ None
 opens_none draft name ss repeats l c few =
-    let a = allowed (inside draft.given draft.names) keys.Repeat l c in
-    cause_none (at draft name ss repeats) keys.Repeat l (record { word = a.word; number = a.number; limit = a.limit; twice = refl; unknown = refl; nesting = lt-leb 8 (length repeats) few })
+    let a = allowed (inside draft.given draft.names) Key.Repeat l c in
+    cause_none (at draft name ss repeats) Key.Repeat l (record { word = a.word; number = a.number; limit = a.limit; twice = refl; unknown = refl; nesting = lt-leb 8 (length repeats) few })
 
-closes_none : (draft : Draft) (name : List ℕ) (ss : List Stmt) (innermost : Repeat) (others : List Repeat) (l : Sentence) → cause_at (inside draft.given draft.names) keys.End l ≡ None → cause_at (at draft name ss (innermost ∷ others)) keys.End l ≡ None
+closes_none : (draft : Draft) (name : List ℕ) (ss : List Stmt) (innermost : Repeat) (others : List Repeat) (l : Sentence) → cause_at (inside draft.given draft.names) Key.End l ≡ None → cause_at (at draft name ss (innermost ∷ others)) Key.End l ≡ None
 closes_none draft name ss innermost others l c =
-    let a = allowed (inside draft.given draft.names) keys.End l c in
-    cause_none (at draft name ss (innermost ∷ others)) keys.End l (record { word = a.word; number = a.number; limit = ap (λ (b : Bool). b && are_too_many draft.closed (Some ss)) (some_repeat innermost others); twice = refl; unknown = refl; nesting = refl })
+    let a = allowed (inside draft.given draft.names) Key.End l c in
+    cause_none (at draft name ss (innermost ∷ others)) Key.End l (record { word = a.word; number = a.number; limit = ap (λ (b : Bool). b && are_too_many draft.closed (Some ss)) (some_repeat innermost others); twice = refl; unknown = refl; nesting = refl })
 
-closes_step : (draft : Draft) (name : List ℕ) (front body : List Stmt) (times : ℕ) (others : List Repeat) (l : Sentence) → IsTakenAs (inside draft.given draft.names) keys.End l → length (front ++ repeat times body) ≤ 200000
+closes_step : (draft : Draft) (name : List ℕ) (front body : List Stmt) (times : ℕ) (others : List Repeat) (l : Sentence) → IsTakenAs (inside draft.given draft.names) Key.End l → length (front ++ repeat times body) ≤ 200000
     → Steps (at draft name (front ++ body) (record { start = length front; times = times } ∷ others)) (l ∷ []) (at draft name (front ++ repeat times body) others)
 unfolding continued
 closes_step draft name front body times others l t few =
@@ -243,7 +241,7 @@ closes_step draft name front body times others l t few =
     let g : Open = record { name = name; statements = Some (front ++ body); repeats = innermost ∷ others } in
     let d : Draft = at draft name (front ++ body) (innermost ∷ others) in
     let written : written_out innermost (front ++ body) ≡ Some (front ++ repeat times body) = written_behind front body times ∙ kept_some (front ++ repeat times body) few in (
-      keys.End,
+      Key.End,
       t.0,
       closes_none draft name (front ++ body) innermost others l t.1,
       ended_repeat d g innermost others refl ∙ ap (λ (o : Option (List Stmt)). record draft { current = Some (record { name = name; statements = o; repeats = others }) }) written,
@@ -271,7 +269,7 @@ block_steps draft name ss repeats around (Say before line) e h few =
 block_steps draft name ss repeats around (Repeated before opens body closes) e h few =
     let front : List Stmt = ss ++ statements_by draft.names before in
     let innermost : Repeat = record { start = length front; times = number_in opens.second } in
-    let some = times_fit (inside draft.given draft.names) keys.Repeat opens h.1.1 refl in
+    let some = times_fit (inside draft.given draft.names) Key.Repeat opens h.1.1 refl in
     let longer = repeat_longer (number_in opens.second) (statements_by draft.names body) some.0 in
     let split = length-append (statements_by draft.names before) (repeat (number_in opens.second) (statements_by draft.names body)) in
     let fronts = length-append ss (statements_by draft.names before) in
@@ -281,7 +279,7 @@ block_steps draft name ss repeats around (Repeated before opens body closes) e h
     let ends = closes_step draft name front (statements_by draft.names body) (number_in opens.second) repeats closes h.4 (omega (arith, whole, fronts, split, few)) in
     Steps-append (at draft name ss repeats) (at draft name front repeats) (at draft name (ss ++ statements_by draft.names (Repeated before opens body closes)) repeats) (lines_in before) (opens ∷ (lines_in body ++ closes ∷ []))
     (block_steps draft name ss repeats around before e h.0 (omega (arith, split, few))) (
-      keys.Repeat,
+      Key.Repeat,
       h.1.0,
       opens_none draft name front repeats opens h.1.1 (omega (arith, h.2, e)),
       Steps-append (at draft name front (innermost ∷ repeats)) (at draft name (front ++ statements_by draft.names body) (innermost ∷ repeats)) (at draft name (ss ++ statements_by draft.names (Repeated before opens body closes)) repeats) (lines_in body) (closes ∷ [])
@@ -316,19 +314,19 @@ routine_steps : (draft : Draft) (r : Routine) → draft.current ≡ None → IsR
     → sum_by statements_in draft.closed + length (statements_by draft.names r.block) ≤ 200000 → Steps draft (routine_lines r) (with_routine draft (goroutine_by draft.names r))
 unfolding continued
 routine_steps draft r e h few apart total =
-    let a = allowed blank_draft keys.Go r.go h.begins.1 in
+    let a = allowed blank_draft Key.Go r.go h.begins.1 in
     let begun : goroutines_begun draft < 32 = omega (arith, few, ap (λ (o : Option Open). length (option_to_list o)) e) in
-    let goes : cause_at draft keys.Go r.go ≡ None = cause_none draft keys.Go r.go (record { word = a.word; number = a.number; limit = lt-leb 32 (goroutines_begun draft) begun; twice = name_free draft r.go.second e apart; unknown = refl; nesting = ap is_some e }) in
-    let b = allowed (inside draft.given draft.names) keys.End r.last h.ends.1 in
+    let goes : cause_at draft Key.Go r.go ≡ None = cause_none draft Key.Go r.go (record { word = a.word; number = a.number; limit = lt-leb 32 (goroutines_begun draft) begun; twice = name_free draft r.go.second e apart; unknown = refl; nesting = ap is_some e }) in
+    let b = allowed (inside draft.given draft.names) Key.End r.last h.ends.1 in
     let d : Draft = at draft r.go.second (statements_by draft.names r.block) [] in
-    let ends : cause_at d keys.End r.last ≡ None =
-    cause_none d keys.End r.last (record { word = b.word; number = b.number; limit = le-ltb 200000 (sum_by statements_in draft.closed + length (statements_by draft.names r.block)) total; twice = refl; unknown = refl; nesting = refl }) in (
-      keys.Go,
+    let ends : cause_at d Key.End r.last ≡ None =
+    cause_none d Key.End r.last (record { word = b.word; number = b.number; limit = le-ltb 200000 (sum_by statements_in draft.closed + length (statements_by draft.names r.block)) total; twice = refl; unknown = refl; nesting = refl }) in (
+      Key.Go,
       h.begins.0,
       goes,
       Steps-append (at draft r.go.second [] []) d (with_routine draft (goroutine_by draft.names r)) (lines_in r.block) (r.last ∷ [])
           (block_steps draft r.go.second [] [] 0 r.block refl h.block (omega (arith, total)))
-          (keys.End, h.ends.0, ends, refl),
+          (Key.End, h.ends.0, ends, refl),
     )
 
 routines_steps : (draft : Draft) (names : List (List ℕ)) (routines : List Routine) → draft.names ≡ names → draft.current ≡ None → All (IsRoutine draft.given draft.names) routines → length draft.closed + length routines ≤ 32

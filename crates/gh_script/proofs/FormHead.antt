@@ -1,6 +1,5 @@
 -- A line of a script where no goroutine is open: one of the head, or one that begins a goroutine.
 use Rattle.std.proofs.Common.{◌≡◌, ℕ, suc, ◌+◌, ◌<◌, ◌≤◌, Bool, true, false, cond, ltb, leb, ◌||◌, List, [], ◌∷◌, ◌++◌, length, map, Option, Some, None, refl, sym, ap, ◌∙◌, subst, append_assoc, arith, inl, inr, get_or, All, is_some, is_none, ◌≢◌, AllPairs, leb-false, lt-ltb, append-nil}
-use Rattle.gh_script.specs.declared.key.Key.TheVariants as keys
 use Rattle.gh_script.proofs.Vocabulary.{All-nil, All-push, all_pairs_push, AreApart, blank_draft, bytes_eq, bytes_eq-Decides, cases_lt, cause_at, continued, Draft, fails_before_first, fields_of, flat_map, Given, given_at, given_by_key, Goroutine, goroutine_by, goroutines_begun, is_type_key, IsHead, IsHeadKey, IsRoutine, IsTaken, just_begun, Key, key_of, length_push, map_push, names_by, Nothing, nothing_given, number_in, Open, option_to_list, position_or_len, Routine, routine_lines, Sentence, Setting, settings_by, shape_with, type_of, types_in, with_given}
 use Rattle.gh_script.proofs.Allowed.{allowed, left_false, type_few}
 use Rattle.gh_script.proofs.FormSaid.{alone_go, alone_set, alone_type, Between, fold_push, IsSeen, Running, some_key, Story, taken_by, Told, types_push, types_push_other}
@@ -31,20 +30,20 @@ keeps_seen given x n y h = grind arith
 now_seen : (given : Given) (x : Setting) (n : ℕ) → is_some (given_at (with_given given x n) x) ≡ true
 now_seen given x n = grind arith
 
-same_setting : (x y : Setting) → some_key (keys.Setting x) ≡ some_key (keys.Setting y) → x ≡ y
+same_setting : (x y : Setting) → some_key (Key.Setting x) ≡ some_key (Key.Setting y) → x ≡ y
 same_setting x y e = cc
 
-no_type : (x : Setting) → some_key (keys.Setting x) ≡ some_key keys.Type → ⊥
+no_type : (x : Setting) → some_key (Key.Setting x) ≡ some_key Key.Type → ⊥
 no_type x e = cc
 
-told_set : (head : List Sentence) (draft : Draft) (x : Setting) (line : Sentence) → Told draft head → cause_at draft (keys.Setting x) line ≡ None → key_of line.first ≡ Some (keys.Setting x) → Told (continued draft (keys.Setting x) line) (head ++ line ∷ [])
+told_set : (head : List Sentence) (draft : Draft) (x : Setting) (line : Sentence) → Told draft head → cause_at draft (Key.Setting x) line ≡ None → key_of line.first ≡ Some (Key.Setting x) → Told (continued draft (Key.Setting x) line) (head ++ line ∷ [])
 unfolding continued
 told_set head draft x line told c e =
-    let fresh : is_some (given_at draft.given x) ≡ false = (allowed draft (keys.Setting x) line c).twice in
+    let fresh : is_some (given_at draft.given x) ≡ false = (allowed draft (Key.Setting x) line c).twice in
     let other : types_in (head ++ line ∷ []) ≡ types_in head = types_push_other head line (ap is_type_key e) in
     record {
-      heads = All-push IsHead head line told.heads (head_line line (keys.Setting x) e tt);
-      taken = All-push (IsTaken blank_draft) head line told.taken (taken_by blank_draft line (keys.Setting x) e (alone_set draft x line c));
+      heads = All-push IsHead head line told.heads (head_line line (Key.Setting x) e tt);
+      taken = All-push (IsTaken blank_draft) head line told.taken (taken_by blank_draft line (Key.Setting x) e (alone_set draft x line c));
       few = subst (λ (ns : List (List ℕ)). length ns ≤ 64) (sym (ap (map (λ (l : Sentence). l.second)) other)) told.few;
       once = all_pairs_push AreApart head line told.once (λ k d lt y f g.
           let same : x ≡ y = same_setting x y (sym e ∙ g) in
@@ -61,17 +60,17 @@ told_set head draft x line told c e =
       shapes = told.shapes ∙ sym (ap (map (λ (l : Sentence). shape_with (fields_of l.third))) other);
     }
 
-told_type : (head : List Sentence) (draft : Draft) (line : Sentence) → Told draft head → cause_at draft keys.Type line ≡ None → key_of line.first ≡ Some keys.Type → Told (continued draft keys.Type line) (head ++ line ∷ [])
+told_type : (head : List Sentence) (draft : Draft) (line : Sentence) → Told draft head → cause_at draft Key.Type line ≡ None → key_of line.first ≡ Some Key.Type → Told (continued draft Key.Type line) (head ++ line ∷ [])
 unfolding continued
 told_type head draft line told c e =
-    let fresh : is_some (type_of draft.names line.second) ≡ false = (allowed draft keys.Type line c).twice in
+    let fresh : is_some (type_of draft.names line.second) ≡ false = (allowed draft Key.Type line c).twice in
     let names : names_by (head ++ line ∷ []) ≡ names_by head ++ line.second ∷ [] = ap (map (λ (l : Sentence). l.second)) (types_push head line (ap is_type_key e)) ∙ map_push (λ (l : Sentence). l.second) (types_in head) line in
     let fresh_by : is_some (type_of (names_by head) line.second) ≡ false = ap (λ (ns : List (List ℕ)). is_some (type_of ns line.second)) (sym told.names) ∙ fresh in
     let more : types_in (head ++ line ∷ []) ≡ types_in head ++ line ∷ [] = types_push head line (ap is_type_key e) in
     record {
-      heads = All-push IsHead head line told.heads (head_line line keys.Type e tt);
-      taken = All-push (IsTaken blank_draft) head line told.taken (taken_by blank_draft line keys.Type e (alone_type draft line c));
-      few = omega (arith, ap length names, length_push (names_by head) line.second, type_few draft keys.Type line c refl, ap length told.names);
+      heads = All-push IsHead head line told.heads (head_line line Key.Type e tt);
+      taken = All-push (IsTaken blank_draft) head line told.taken (taken_by blank_draft line Key.Type e (alone_type draft line c));
+      few = omega (arith, ap length names, length_push (names_by head) line.second, type_few draft Key.Type line c refl, ap length told.names);
       once = all_pairs_push AreApart head line told.once (λ k d lt y f g. no_type y (sym g ∙ e));
       seen = All-push (IsSeen draft.given) head line told.seen (λ y f. absurd (no_type y (sym f ∙ e)));
       apart = subst (λ (ns : List (List ℕ)). AllPairs (λ a b. a ≢ b) ns) (sym names)
@@ -124,7 +123,7 @@ between_head said head draft line e t closed current = inl (record {
   current = current;
 })
 
-between_go : (said : List Sentence) (draft : Draft) (line : Sentence) → Between said draft → cause_at draft keys.Go line ≡ None → key_of line.first ≡ Some keys.Go → Running (said ++ line ∷ []) (continued draft keys.Go line)
+between_go : (said : List Sentence) (draft : Draft) (line : Sentence) → Between said draft → cause_at draft Key.Go line ≡ None → key_of line.first ≡ Some Key.Go → Running (said ++ line ∷ []) (continued draft Key.Go line)
 unfolding continued
 between_go said draft line h c e = record {
   head = h.head;
@@ -144,12 +143,12 @@ between_go said draft line h c e = record {
 
 pub between_step : (said : List Sentence) (draft : Draft) (key : Key) (line : Sentence) → Between said draft → cause_at draft key line ≡ None → key_of line.first ≡ Some key → Story (said ++ line ∷ []) (continued draft key line)
 unfolding continued
-between_step said draft (keys.Setting x) line h c e =
-    let w = head_alone (names_by h.head) h.head said h.routines draft.closed draft.current h.lines h.closed (allowed draft (keys.Setting x) line c).nesting in
-    between_head said h.head (continued draft (keys.Setting x) line) line w.0 (told_set h.head draft x line h.told c e) w.1 h.current
-between_step said draft keys.Type line h c e =
-    let w = head_alone (names_by h.head) h.head said h.routines draft.closed draft.current h.lines h.closed (allowed draft keys.Type line c).nesting in
-    between_head said h.head (continued draft keys.Type line) line w.0 (told_type h.head draft line h.told c e) w.1 h.current
-between_step said draft keys.Go line h c e = inr (inl (between_go said draft line h c e))
-between_step said draft keys.Repeat line h c e = absurd (none_open_repeat draft.current _ h.current (allowed draft keys.Repeat line c).nesting)
+between_step said draft (Key.Setting x) line h c e =
+    let w = head_alone (names_by h.head) h.head said h.routines draft.closed draft.current h.lines h.closed (allowed draft (Key.Setting x) line c).nesting in
+    between_head said h.head (continued draft (Key.Setting x) line) line w.0 (told_set h.head draft x line h.told c e) w.1 h.current
+between_step said draft Key.Type line h c e =
+    let w = head_alone (names_by h.head) h.head said h.routines draft.closed draft.current h.lines h.closed (allowed draft Key.Type line c).nesting in
+    between_head said h.head (continued draft Key.Type line) line w.0 (told_type h.head draft line h.told c e) w.1 h.current
+between_step said draft Key.Go line h c e = inr (inl (between_go said draft line h c e))
+between_step said draft Key.Repeat line h c e = absurd (none_open_repeat draft.current _ h.current (allowed draft Key.Repeat line c).nesting)
 between_step said draft key line h c e = absurd (none_open draft.current h.current (allowed draft key line c).nesting)

@@ -1,7 +1,7 @@
 -- A line of a script where a goroutine is open, and where it has too many statements.
 use Rattle.std.proofs.Common.{◌≡◌, ℕ, suc, ◌+◌, ◌<◌, true, false, eqb, leb, ◌&&◌, ◌||◌, List, [], ◌∷◌, ◌++◌, length, Option, Some, None, refl, sym, ap, ◌∙◌, subst, append_assoc, arith, inl, inr, ◌⊎◌, is_some, is_none, append-nil}
-use Rattle.gh_script.specs.declared.key.Key.TheVariants as keys
-use Rattle.gh_script.proofs.Vocabulary.{All-push, are_too_many, Block, block_ended, cases_lt, cause_at, continued, Draft, flat_map, flat_map_more, Goroutine, goroutine_by, goroutines_begun, inside, is_too_long, IsBlock, IsRoutine, kept, Key, key_of, lines_in, map_push, names_by, Nothing, number_in, Open, option_and_then, option_map, option_to_list, Repeat, repeat, Repeated, repeats_open, routine_lines, Say, Sentence, settings_by, statement_by_key, statement_of, statements_by, Stmt, with_closed, with_repeat, with_statement}
+use Rattle.std.proofs.lemmas.List.{flat_map_more}
+use Rattle.gh_script.proofs.Vocabulary.{All-push, are_too_many, Block, block_ended, cases_lt, cause_at, continued, Draft, flat_map, Goroutine, goroutine_by, goroutines_begun, inside, is_too_long, IsBlock, IsRoutine, kept, Key, key_of, lines_in, map_push, names_by, Nothing, number_in, Open, option_and_then, option_map, option_to_list, Repeat, repeat, Repeated, repeats_open, routine_lines, Say, Sentence, settings_by, statement_by_key, statement_of, statements_by, Stmt, with_closed, with_repeat, with_statement}
 use Rattle.gh_script.proofs.Allowed.{allowed}
 use Rattle.gh_script.proofs.Written.{kept_none, kept_some, written_behind, ended_repeat}
 use Rattle.gh_script.proofs.FormSaid.{AreFrames, Frame, inside_end, inside_none, inside_repeat, inside_told, lines_within, Lost, open_by, repeats_by, Running, statements_within, Story, taken_by}
@@ -61,7 +61,7 @@ length-repeats_by names (f ∷ fs) = ap suc (length-repeats_by names fs)
 few_open : (draft : Draft) (names : List (List ℕ)) (go : Sentence) (frames : List Frame) (block : Block) → draft.current ≡ Some (open_by names go frames block) → (is_none draft.current || leb 8 (length (repeats_open draft))) ≡ false → length frames < 8
 few_open draft names go frames block e h = grind (arith, length-repeats_by)
 
-running_repeat : (said : List Sentence) (draft : Draft) (line : Sentence) → Running said draft → cause_at draft keys.Repeat line ≡ None → key_of line.first ≡ Some keys.Repeat → Running (said ++ line ∷ []) (continued draft keys.Repeat line)
+running_repeat : (said : List Sentence) (draft : Draft) (line : Sentence) → Running said draft → cause_at draft Key.Repeat line ≡ None → key_of line.first ≡ Some Key.Repeat → Running (said ++ line ∷ []) (continued draft Key.Repeat line)
 unfolding continued
 running_repeat said draft line h c e = record {
   head = h.head;
@@ -73,7 +73,7 @@ running_repeat said draft line h c e = record {
   told = told_same draft (record draft { current = option_map (with_repeat (number_in line.second)) draft.current }) h.head h.told refl refl refl;
   right = h.right;
   begins = h.begins;
-  outer = (h.inner, (e, inside_told draft h.head keys.Repeat line h.told (inside_repeat draft line c)), few_open draft (names_by h.head) h.go h.frames h.block h.current (allowed draft keys.Repeat line c).nesting, h.outer);
+  outer = (h.inner, (e, inside_told draft h.head Key.Repeat line h.told (inside_repeat draft line c)), few_open draft (names_by h.head) h.go h.frames h.block h.current (allowed draft Key.Repeat line c).nesting, h.outer);
   inner = tt;
   closed = h.closed;
   current = ap (option_map (with_repeat (number_in line.second))) h.current
@@ -82,7 +82,7 @@ running_repeat said draft line h c e = record {
 }
 
 -- `end` closes the innermost `repeat`
-running_close : (said : List Sentence) (draft : Draft) (line : Sentence) (h : Running said draft) (f : Frame) (fs : List Frame) → h.frames ≡ f ∷ fs → cause_at draft keys.End line ≡ None → key_of line.first ≡ Some keys.End
+running_close : (said : List Sentence) (draft : Draft) (line : Sentence) (h : Running said draft) (f : Frame) (fs : List Frame) → h.frames ≡ f ∷ fs → cause_at draft Key.End line ≡ None → key_of line.first ≡ Some Key.End
     → Story (said ++ line ∷ []) (block_ended draft (Some (open_by (names_by h.head) h.go (f ∷ fs) h.block)))
 running_close said draft line h f fs e c k =
     let outer : AreFrames (settings_by h.head) (names_by h.head) (f ∷ fs) = subst (AreFrames (settings_by h.head) (names_by h.head)) e h.outer in
@@ -98,15 +98,15 @@ running_close said draft line h f fs e c k =
     ∙ sym (append_assoc (lines_within fs f.before) (f.opens ∷ lines_in h.block) (line ∷ []))
     ∙ sym (ap (λ (l : List Frame). lines_within l h.block ++ line ∷ []) e))
     outer.3
-    (outer.0, outer.1, outer.2, inner, (k, inside_told draft h.head keys.End line h.told (inside_end draft line c))))
+    (outer.0, outer.1, outer.2, inner, (k, inside_told draft h.head Key.End line h.told (inside_end draft line c))))
 
 -- `end` closes the goroutine
-running_over : (said : List Sentence) (draft : Draft) (line : Sentence) (h : Running said draft) → h.frames ≡ [] → cause_at draft keys.End line ≡ None → key_of line.first ≡ Some keys.End
+running_over : (said : List Sentence) (draft : Draft) (line : Sentence) (h : Running said draft) → h.frames ≡ [] → cause_at draft Key.End line ≡ None → key_of line.first ≡ Some Key.End
     → Story (said ++ line ∷ []) (block_ended draft (Some (open_by (names_by h.head) h.go [] h.block)))
 running_over said draft line h e c k =
     let inner : IsBlock (settings_by h.head) (names_by h.head) 0 h.block = subst (λ (n : ℕ). IsBlock (settings_by h.head) (names_by h.head) n h.block) (ap length e) h.inner in
     let right : IsRoutine (settings_by h.head) (names_by h.head) (record { go = h.go; block = h.block; last = line }) =
-    record { begins = h.begins; block = inner; ends = (k, inside_told draft h.head keys.End line h.told (inside_end draft line c)) } in
+    record { begins = h.begins; block = inner; ends = (k, inside_told draft h.head Key.End line h.told (inside_end draft line c)) } in
     inl (record {
       head = h.head;
       routines = h.routines ++ record { go = h.go; block = h.block; last = line } ∷ [];
@@ -120,27 +120,27 @@ running_over said draft line h e c k =
       current = refl;
     })
 
-running_end : (said : List Sentence) (draft : Draft) (line : Sentence) (h : Running said draft) (frames : List Frame) → h.frames ≡ frames → cause_at draft keys.End line ≡ None → key_of line.first ≡ Some keys.End
+running_end : (said : List Sentence) (draft : Draft) (line : Sentence) (h : Running said draft) (frames : List Frame) → h.frames ≡ frames → cause_at draft Key.End line ≡ None → key_of line.first ≡ Some Key.End
     → Story (said ++ line ∷ []) (block_ended draft (Some (open_by (names_by h.head) h.go frames h.block)))
 running_end said draft line h [] e c k = running_over said draft line h e c k
 running_end said draft line h (f ∷ fs) e c k = running_close said draft line h f fs e c k
 
 pub running_step : (said : List Sentence) (draft : Draft) (key : Key) (line : Sentence) → Running said draft → cause_at draft key line ≡ None → key_of line.first ≡ Some key → Story (said ++ line ∷ []) (continued draft key line)
 unfolding continued
-running_step said draft (keys.Setting x) line h c e = absurd (one_begun draft _ h.current (allowed draft (keys.Setting x) line c).nesting)
-running_step said draft keys.Type line h c e = absurd (one_begun draft _ h.current (allowed draft keys.Type line c).nesting)
-running_step said draft keys.Go line h c e = absurd (one_open draft.current _ h.current (allowed draft keys.Go line c).nesting)
-running_step said draft keys.Repeat line h c e = inr (inl (running_repeat said draft line h c e))
-running_step said draft keys.End line h c e = subst (Story (said ++ line ∷ [])) (sym (ap (block_ended draft) h.current)) (running_end said draft line h h.frames refl c e)
-running_step said draft keys.New line h c e = running_say said draft keys.New line _ h (let a = allowed draft keys.New line c in inside_none draft keys.New line a a.limit a.twice a.unknown refl) e refl
-running_step said draft keys.Load line h c e = running_say said draft keys.Load line _ h (let a = allowed draft keys.Load line c in inside_none draft keys.Load line a a.limit a.twice a.unknown refl) e refl
-running_step said draft keys.Store line h c e = running_say said draft keys.Store line _ h (let a = allowed draft keys.Store line c in inside_none draft keys.Store line a a.limit a.twice a.unknown refl) e refl
-running_step said draft keys.GetGlobal line h c e = running_say said draft keys.GetGlobal line _ h (let a = allowed draft keys.GetGlobal line c in inside_none draft keys.GetGlobal line a a.limit a.twice a.unknown refl) e refl
-running_step said draft keys.SetGlobal line h c e = running_say said draft keys.SetGlobal line _ h (let a = allowed draft keys.SetGlobal line c in inside_none draft keys.SetGlobal line a a.limit a.twice a.unknown refl) e refl
-running_step said draft keys.Int line h c e = running_say said draft keys.Int line _ h (let a = allowed draft keys.Int line c in inside_none draft keys.Int line a a.limit a.twice a.unknown refl) e refl
-running_step said draft keys.Move line h c e = running_say said draft keys.Move line _ h (let a = allowed draft keys.Move line c in inside_none draft keys.Move line a a.limit a.twice a.unknown refl) e refl
-running_step said draft keys.Nil line h c e = running_say said draft keys.Nil line _ h (let a = allowed draft keys.Nil line c in inside_none draft keys.Nil line a a.limit a.twice a.unknown refl) e refl
-running_step said draft keys.Gc line h c e = running_say said draft keys.Gc line _ h (let a = allowed draft keys.Gc line c in inside_none draft keys.Gc line a a.limit a.twice a.unknown refl) e refl
+running_step said draft (Key.Setting x) line h c e = absurd (one_begun draft _ h.current (allowed draft (Key.Setting x) line c).nesting)
+running_step said draft Key.Type line h c e = absurd (one_begun draft _ h.current (allowed draft Key.Type line c).nesting)
+running_step said draft Key.Go line h c e = absurd (one_open draft.current _ h.current (allowed draft Key.Go line c).nesting)
+running_step said draft Key.Repeat line h c e = inr (inl (running_repeat said draft line h c e))
+running_step said draft Key.End line h c e = subst (Story (said ++ line ∷ [])) (sym (ap (block_ended draft) h.current)) (running_end said draft line h h.frames refl c e)
+running_step said draft Key.New line h c e = running_say said draft Key.New line _ h (let a = allowed draft Key.New line c in inside_none draft Key.New line a a.limit a.twice a.unknown refl) e refl
+running_step said draft Key.Load line h c e = running_say said draft Key.Load line _ h (let a = allowed draft Key.Load line c in inside_none draft Key.Load line a a.limit a.twice a.unknown refl) e refl
+running_step said draft Key.Store line h c e = running_say said draft Key.Store line _ h (let a = allowed draft Key.Store line c in inside_none draft Key.Store line a a.limit a.twice a.unknown refl) e refl
+running_step said draft Key.GetGlobal line h c e = running_say said draft Key.GetGlobal line _ h (let a = allowed draft Key.GetGlobal line c in inside_none draft Key.GetGlobal line a a.limit a.twice a.unknown refl) e refl
+running_step said draft Key.SetGlobal line h c e = running_say said draft Key.SetGlobal line _ h (let a = allowed draft Key.SetGlobal line c in inside_none draft Key.SetGlobal line a a.limit a.twice a.unknown refl) e refl
+running_step said draft Key.Int line h c e = running_say said draft Key.Int line _ h (let a = allowed draft Key.Int line c in inside_none draft Key.Int line a a.limit a.twice a.unknown refl) e refl
+running_step said draft Key.Move line h c e = running_say said draft Key.Move line _ h (let a = allowed draft Key.Move line c in inside_none draft Key.Move line a a.limit a.twice a.unknown refl) e refl
+running_step said draft Key.Nil line h c e = running_say said draft Key.Nil line _ h (let a = allowed draft Key.Nil line c in inside_none draft Key.Nil line a a.limit a.twice a.unknown refl) e refl
+running_step said draft Key.Gc line h c e = running_say said draft Key.Gc line _ h (let a = allowed draft Key.Gc line c in inside_none draft Key.Gc line a a.limit a.twice a.unknown refl) e refl
 
 -- ---- too many statements
 
@@ -154,11 +154,11 @@ lost_end draft g repeats e none f h = grind (arith, lost_none)
 
 pub lost_step : (draft : Draft) (key : Key) (line : Sentence) → Lost draft → cause_at draft key line ≡ None → Lost (continued draft key line)
 unfolding continued
-lost_step draft (keys.Setting x) line h c = absurd (one_begun draft h.g h.current (allowed draft (keys.Setting x) line c).nesting)
-lost_step draft keys.Type line h c = absurd (one_begun draft h.g h.current (allowed draft keys.Type line c).nesting)
-lost_step draft keys.Go line h c = absurd (one_open draft.current h.g h.current (allowed draft keys.Go line c).nesting)
-lost_step draft keys.Repeat line h c = record { g = with_repeat (number_in line.second) h.g; current = ap (option_map (with_repeat (number_in line.second))) h.current; none = h.none }
-lost_step draft keys.End line h c = lost_end draft h.g h.g.repeats h.current h.none refl (allowed draft keys.End line c).limit
+lost_step draft (Key.Setting x) line h c = absurd (one_begun draft h.g h.current (allowed draft (Key.Setting x) line c).nesting)
+lost_step draft Key.Type line h c = absurd (one_begun draft h.g h.current (allowed draft Key.Type line c).nesting)
+lost_step draft Key.Go line h c = absurd (one_open draft.current h.g h.current (allowed draft Key.Go line c).nesting)
+lost_step draft Key.Repeat line h c = record { g = with_repeat (number_in line.second) h.g; current = ap (option_map (with_repeat (number_in line.second))) h.current; none = h.none }
+lost_step draft Key.End line h c = lost_end draft h.g h.g.repeats h.current h.none refl (allowed draft Key.End line c).limit
 lost_step draft key line h c = record {
   g = with_statement (statement_of draft.names key line) h.g;
   current = ap (option_map (with_statement (statement_of draft.names key line))) h.current;

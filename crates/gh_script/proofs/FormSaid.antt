@@ -1,6 +1,5 @@
 -- What the lines so far say of a script: its head, the goroutines that have ended, and one that is open.
 use Rattle.std.proofs.Common.{◌≡◌, ℕ, ◌<◌, ◌≤◌, Bool, true, false, not, cond, ◌||◌, List, [], ◌∷◌, ◌++◌, length, map, Option, Some, None, refl, sym, ap, ◌∙◌, subst, ◌⊎◌, All, is_some, fold, ◌≢◌, AllPairs, arith}
-use Rattle.gh_script.specs.declared.key.Key.TheVariants as keys
 use Rattle.gh_script.proofs.Vocabulary.{AreApart, blank_draft, Block, cause_at, Draft, fits_limits, flat_map, Given, given_at, goroutine_by, has_goroutine, inside, is_limit_fault, is_nesting_fault, is_number_fault, is_twice_fault, is_type_key, is_unknown_fault, is_word_fault, IsBlock, IsHead, IsRoutine, IsTaken, IsTakenAs, Key, key_of, Limit, lines_in, names_by, Nesting, nothing_given, Number, number_in, Open, Repeat, Routine, routine_lines, Sentence, Setting, settings_by, shapes_by, statements_by, Stmt, Twice, type_of, types_in, Unknown, Word}
 use Rattle.gh_script.proofs.Allowed.{Allowed, allowed, left_false}
 
@@ -37,34 +36,34 @@ no_goroutines word = refl
 pub or_false : (a b : Bool) → a ≡ false → b ≡ false → (a || b) ≡ false
 or_false a b p q = grind arith
 
-pub alone_set : (draft : Draft) (x : Setting) (line : Sentence) → cause_at draft (keys.Setting x) line ≡ None → cause_at blank_draft (keys.Setting x) line ≡ None
+pub alone_set : (draft : Draft) (x : Setting) (line : Sentence) → cause_at draft (Key.Setting x) line ≡ None → cause_at blank_draft (Key.Setting x) line ≡ None
 alone_set draft x line c =
-    let a = allowed draft (keys.Setting x) line c in
-    cause_none blank_draft (keys.Setting x) line (record { word = a.word; number = a.number; limit = a.limit; twice = none_given x; unknown = refl; nesting = refl })
+    let a = allowed draft (Key.Setting x) line c in
+    cause_none blank_draft (Key.Setting x) line (record { word = a.word; number = a.number; limit = a.limit; twice = none_given x; unknown = refl; nesting = refl })
 
-pub alone_type : (draft : Draft) (line : Sentence) → cause_at draft keys.Type line ≡ None → cause_at blank_draft keys.Type line ≡ None
+pub alone_type : (draft : Draft) (line : Sentence) → cause_at draft Key.Type line ≡ None → cause_at blank_draft Key.Type line ≡ None
 alone_type draft line c =
-    let a = allowed draft keys.Type line c in
-    cause_none blank_draft keys.Type line (record { word = a.word; number = a.number; limit = or_false (not (fits_limits line.third)) false (left_false _ _ a.limit) refl; twice = no_types line.second; unknown = refl; nesting = refl })
+    let a = allowed draft Key.Type line c in
+    cause_none blank_draft Key.Type line (record { word = a.word; number = a.number; limit = or_false (not (fits_limits line.third)) false (left_false _ _ a.limit) refl; twice = no_types line.second; unknown = refl; nesting = refl })
 
-pub alone_go : (draft : Draft) (line : Sentence) → cause_at draft keys.Go line ≡ None → cause_at blank_draft keys.Go line ≡ None
+pub alone_go : (draft : Draft) (line : Sentence) → cause_at draft Key.Go line ≡ None → cause_at blank_draft Key.Go line ≡ None
 alone_go draft line c =
-    let a = allowed draft keys.Go line c in
-    cause_none blank_draft keys.Go line (record { word = a.word; number = a.number; limit = refl; twice = no_goroutines line.second; unknown = refl; nesting = refl })
+    let a = allowed draft Key.Go line c in
+    cause_none blank_draft Key.Go line (record { word = a.word; number = a.number; limit = refl; twice = no_goroutines line.second; unknown = refl; nesting = refl })
 
 pub inside_none : (draft : Draft) (key : Key) (line : Sentence) → Allowed draft key line → is_limit_fault (inside draft.given draft.names) key line ≡ false → is_twice_fault (inside draft.given draft.names) key line ≡ false
     → is_unknown_fault (inside draft.given draft.names) key line ≡ false → is_nesting_fault (inside draft.given draft.names) key ≡ false → cause_at (inside draft.given draft.names) key line ≡ None
 inside_none draft key line a l t u n = cause_none (inside draft.given draft.names) key line (record { word = a.word; number = a.number; limit = l; twice = t; unknown = u; nesting = n })
 
-pub inside_end : (draft : Draft) (line : Sentence) → cause_at draft keys.End line ≡ None → cause_at (inside draft.given draft.names) keys.End line ≡ None
+pub inside_end : (draft : Draft) (line : Sentence) → cause_at draft Key.End line ≡ None → cause_at (inside draft.given draft.names) Key.End line ≡ None
 inside_end draft line c =
-    let a = allowed draft keys.End line c in
-    inside_none draft keys.End line a refl a.twice a.unknown refl
+    let a = allowed draft Key.End line c in
+    inside_none draft Key.End line a refl a.twice a.unknown refl
 
-pub inside_repeat : (draft : Draft) (line : Sentence) → cause_at draft keys.Repeat line ≡ None → cause_at (inside draft.given draft.names) keys.Repeat line ≡ None
+pub inside_repeat : (draft : Draft) (line : Sentence) → cause_at draft Key.Repeat line ≡ None → cause_at (inside draft.given draft.names) Key.Repeat line ≡ None
 inside_repeat draft line c =
-    let a = allowed draft keys.Repeat line c in
-    inside_none draft keys.Repeat line a a.limit a.twice a.unknown refl
+    let a = allowed draft Key.Repeat line c in
+    inside_none draft Key.Repeat line a a.limit a.twice a.unknown refl
 
 -- ---- lists with one more line
 
@@ -90,7 +89,7 @@ types_push_other (l ∷ ls) line h = other_step l (types_in (ls ++ line ∷ []))
 
 -- the setting of the line was given
 abbrev pub IsSeen : Given → Sentence → Type 0
-IsSeen given line = (x : Setting) → key_of line.first ≡ Some (keys.Setting x) → is_some (given_at given x) ≡ true
+IsSeen given line = (x : Setting) → key_of line.first ≡ Some (Key.Setting x) → is_some (given_at given x) ≡ true
 
 -- the draft has the settings and types of the head
 pub record Told (draft : Draft) (head : List Sentence) : Type 0 where
@@ -129,7 +128,7 @@ repeats_by names (f ∷ fs) = record { start = length (statements_within names f
 
 abbrev pub AreFrames : Given → List (List ℕ) → List Frame → Type 0
 AreFrames given names [] = Unit {0}
-AreFrames given names (f ∷ fs) = IsBlock given names (length fs) f.before × IsTakenAs (inside given names) keys.Repeat f.opens × (length fs < 8) × AreFrames given names fs
+AreFrames given names (f ∷ fs) = IsBlock given names (length fs) f.before × IsTakenAs (inside given names) Key.Repeat f.opens × (length fs < 8) × AreFrames given names fs
 
 abbrev pub open_by : List (List ℕ) → Sentence → List Frame → Block → Open
 open_by names go frames block = record { name = go.second; statements = Some (statements_within names frames block); repeats = repeats_by names frames }
@@ -154,7 +153,7 @@ pub record Running (said : List Sentence) (draft : Draft) : Type 0 where
   pub lines : said ≡ head ++ (flat_map routine_lines routines ++ go ∷ lines_within frames block)
   pub told : Told draft head
   pub right : All (IsRoutine (settings_by head) (names_by head)) routines
-  pub begins : IsTakenAs blank_draft keys.Go go
+  pub begins : IsTakenAs blank_draft Key.Go go
   pub outer : AreFrames (settings_by head) (names_by head) frames
   pub inner : IsBlock (settings_by head) (names_by head) (length frames) block
   pub closed : draft.closed ≡ map (goroutine_by (names_by head)) routines

@@ -1,8 +1,6 @@
 -- A text that spells a program spells a well-formed one; each text has one reading.
 use Rattle.std.proofs.Common.{◌≡◌, ℕ, ◌+◌, ◌*◌, ◌<◌, ◌≤◌, Bool, true, false, cond, eqb, ltb, not, List, [], ◌∷◌, length, take, Option, Some, Result, Ok, Err, refl, sym, ap, subst, arith, inl, inr, ◌⊎◌, unwrap_or, All, is_some, IfOk, lt-ltb, take_all, length-take-le}
-use Rattle.gh_script.specs.declared.fault.ParseError.{ParseError}
-use Rattle.gh_script.specs.Outcome.{EndsAsRead}
-use Rattle.gh_script.proofs.Vocabulary.{Arena, AreStatements, AreWithin, blank_draft, cases_lt, Draft, eqb-false, Given, given_at, Globals, globals_in, go_on, Gogc, is_utf8, IsSound, least, line_fault, lines_of, Minheap, Missing, most, most_bytes, Nesting, Procs, Program, program_in, read_end, read_line, read_lines, reading_of, Refused, ScriptFault, sentence_of, Setting, Settings, settings_in, Size, Spells, then_end, Utf8, WellFormed, Why, words_of, Workers}
+use Rattle.gh_script.proofs.Vocabulary.{Arena, AreStatements, AreWithin, blank_draft, cases_lt, Draft, EndsAsRead, eqb-false, Given, given_at, Globals, globals_in, go_on, Gogc, is_utf8, IsSound, least, line_fault, lines_of, Minheap, Missing, most, most_bytes, Nesting, ParseError, Procs, Program, program_in, read_end, read_line, read_lines, reading_of, Refused, ScriptFault, sentence_of, Setting, Settings, settings_in, Size, Spells, then_end, Utf8, WellFormed, Why, words_of, Workers}
 use Rattle.gh_script.proofs.ShapeLaws.{All-ShapesFit}
 use Rattle.gh_script.proofs.Sound.{IsSound-read_line}
 

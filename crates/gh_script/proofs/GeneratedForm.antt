@@ -1,29 +1,8 @@
 -- The text of a generated script has the form of a script, and says its program.
-use Rattle.std.proofs.Common.{◌≡◌, ℕ, ◌+◌, ◌*◌, ◌/◌, ◌<◌, ◌≤◌, Bool, true, false, not, eqb, ◌&&◌, List, [], ◌∷◌, ◌++◌, length, map, get_or, Option, Some, None, refl, sym, ap, ◌∙◌, subst, append_assoc, append-nil, arith, All, AllPairs, ◌≢◌, length-append}
-use Rattle.std.specs.Prelude.{decimal, codes, sum_by}
-use Rattle.std.specs.List.{flat_map, list_all, range_with_len}
-use Rattle.std.specs.Option.{option_to_list}
-use Rattle.std.proofs.lemmas.Fmt.{decimal_digit}
+use Rattle.std.proofs.Common.{◌≡◌, ℕ, ◌+◌, ◌*◌, ◌/◌, ◌<◌, ◌≤◌, Bool, true, false, not, eqb, ◌&&◌, List, [], ◌∷◌, ◌++◌, length, map, get_or, Option, Some, None, refl, sym, ap, ◌∙◌, subst, append_assoc, append-nil, arith, All, AllPairs, ◌≢◌, length-append, decimal, codes, sum_by}
 use Rattle.std.proofs.lemmas.Bool.{eq-eqb}
-use Rattle.std.proofs.lemmas.List.{length-map, map-append}
-use Rattle.std.proofs.lemmas.List.Elements.{All-cons, All-head, All-map, All-nil, All-tail}
 use Rattle.std.proofs.lemmas.List.Kept.{AllPairs-cons}
-use Rattle.std.proofs.lemmas.List.Sums.{sum_by-cons}
-use Rattle.std.proofs.lemmas.List.Folds.{list_all-append}
-use Rattle.std.proofs.lemmas.List.FromFn.{get_or-map-range_with_len, length-map-range_with_len}
-use Rattle.gh_script.specs.declared.key.Key.TheVariants as keys
-use Rattle.gh_script.specs.declared.key.Key.{Key}
-use Rattle.gh_script.specs.declared.key.Setting.TheVariants.{Procs, Workers, Arena, Globals, Gogc, Minheap}
-use Rattle.gh_script.specs.declared.given.Given.{Given}
-use Rattle.gh_script.specs.declared.statement.Stmt.{Stmt}
-use Rattle.gh_script.specs.Draft.{blank_draft, has_goroutine, settings_in, type_of}
-use Rattle.gh_script.specs.Form.{AreApart, Block, goroutine_by, HasForm, inside, IsBlock, IsHead, IsRoutine, IsTaken, lines_in, names_by, Nothing, Routine, routine_lines, Say, settings_by, shapes_by, statements_by}
-use Rattle.gh_script.specs.Generated.{generated_goroutine, generated_name, generated_program, generated_text, GeneratedGoroutinesKeepApart, GeneratedScriptsHaveTheirSize, goroutine_lines, head_lines, KeepsTo, node_shape, spaced, state_behind, statement_by, statement_words, statements_drawn, word_drawn}
-use Rattle.gh_script.specs.Grammar.{cause_at}
-use Rattle.gh_script.specs.Program.{AreNamedApart, Goroutine, no_goroutine, statements_in}
-use Rattle.gh_script.specs.ShapeText.{are_counts, are_letters, bits_as_number, fields_behind_letter, fields_of, fits_behind, fits_limits, items_of, packed, shape_with, spread}
-use Rattle.gh_script.specs.Text.{Sentence, sentence_of}
-use Rattle.gh_script.specs.Words.{block_key_of, digits_value_of, is_name, key_of, number_spelled, setting_named, statement_key_of, value_from}
+use Rattle.gh_script.proofs.Vocabulary.{All-cons, All-head, All-map, All-nil, All-tail, are_counts, are_letters, AreApart, Arena, AreNamedApart, bits_as_number, blank_draft, Block, block_key_of, cause_at, decimal_digit, digits_value_of, fields_behind_letter, fields_of, fits_behind, fits_limits, flat_map, generated_goroutine, generated_name, generated_program, generated_text, GeneratedGoroutinesKeepApart, GeneratedScriptsHaveTheirSize, get_or-map-range_with_len, Given, Globals, Gogc, Goroutine, goroutine_by, goroutine_lines, has_goroutine, HasForm, head_lines, inside, is_name, IsBlock, IsHead, IsRoutine, IsTaken, items_of, KeepsTo, Key, key_of, length-map, length-map-range_with_len, lines_in, list_all, list_all-append, map-append, Minheap, names_by, no_goroutine, node_shape, Nothing, number_spelled, option_to_list, packed, Procs, range_with_len, Routine, routine_lines, Say, Sentence, sentence_of, setting_named, settings_by, settings_in, shape_with, shapes_by, spaced, spread, state_behind, statement_by, statement_key_of, statement_words, statements_by, statements_drawn, statements_in, Stmt, sum_by-cons, type_of, value_from, word_drawn, Workers}
 use Rattle.gh_script.proofs.FormSaid.{cause_none, taken_by}
 use Rattle.gh_script.proofs.GeneratedWords.{given, IsSaid, IsSaid-statement_by, KeepsTo-statement_by, name_line, names, one_digit}
 use Rattle.gh_script.proofs.Spelled.{both_true, is_line, is_utf8-text_of, left_true, length-text_of-le, right_true, sayings-text_of}
@@ -47,12 +26,12 @@ head_names = refl
 
 -- a number for each setting, and another for all else
 abbrev number_of_key : Option Key → ℕ
-number_of_key (Some (keys.Setting Procs)) = 0
-number_of_key (Some (keys.Setting Workers)) = 1
-number_of_key (Some (keys.Setting Arena)) = 2
-number_of_key (Some (keys.Setting Globals)) = 3
-number_of_key (Some (keys.Setting Gogc)) = 4
-number_of_key (Some (keys.Setting Minheap)) = 5
+number_of_key (Some (Key.Setting Procs)) = 0
+number_of_key (Some (Key.Setting Workers)) = 1
+number_of_key (Some (Key.Setting Arena)) = 2
+number_of_key (Some (Key.Setting Globals)) = 3
+number_of_key (Some (Key.Setting Gogc)) = 4
+number_of_key (Some (Key.Setting Minheap)) = 5
 number_of_key (Some key) = 6
 number_of_key None = 6
 
@@ -101,18 +80,18 @@ head_taken : All (IsTaken blank_draft) head
 unfolding key_of setting_named block_key_of statement_key_of number_spelled digits_value_of value_from cause_at type_of is_name are_letters are_counts fits_limits fits_behind items_of fields_behind_letter
 head_taken =
     All-Each (IsTaken blank_draft) head (
-      taken_by blank_draft (sentence_of (codes "procs" ∷ codes "4" ∷ [])) (keys.Setting Procs) refl refl,
+      taken_by blank_draft (sentence_of (codes "procs" ∷ codes "4" ∷ [])) (Key.Setting Procs) refl refl,
       (
-        taken_by blank_draft (sentence_of (codes "workers" ∷ codes "2" ∷ [])) (keys.Setting Workers) refl refl,
+        taken_by blank_draft (sentence_of (codes "workers" ∷ codes "2" ∷ [])) (Key.Setting Workers) refl refl,
         (
-          taken_by blank_draft (sentence_of (codes "arena" ∷ codes "1024" ∷ [])) (keys.Setting Arena) refl refl,
+          taken_by blank_draft (sentence_of (codes "arena" ∷ codes "1024" ∷ [])) (Key.Setting Arena) refl refl,
           (
-            taken_by blank_draft (sentence_of (codes "globals" ∷ codes "4" ∷ [])) (keys.Setting Globals) refl refl,
+            taken_by blank_draft (sentence_of (codes "globals" ∷ codes "4" ∷ [])) (Key.Setting Globals) refl refl,
             (
-              taken_by blank_draft (sentence_of (codes "gogc" ∷ codes "50" ∷ [])) (keys.Setting Gogc) refl refl,
+              taken_by blank_draft (sentence_of (codes "gogc" ∷ codes "50" ∷ [])) (Key.Setting Gogc) refl refl,
               (
-                taken_by blank_draft (sentence_of (codes "minheap" ∷ codes "65536" ∷ [])) (keys.Setting Minheap) refl refl,
-                (taken_by blank_draft (sentence_of (codes "type" ∷ codes "node" ∷ codes "ppn" ∷ [])) keys.Type refl refl, tt),
+                taken_by blank_draft (sentence_of (codes "minheap" ∷ codes "65536" ∷ [])) (Key.Setting Minheap) refl refl,
+                (taken_by blank_draft (sentence_of (codes "type" ∷ codes "node" ∷ codes "ppn" ∷ [])) Key.Type refl refl, tt),
               ),
             ),
           ),
@@ -191,9 +170,9 @@ unfolding key_of setting_named block_key_of statement_key_of
 IsRoutine-routine_of g h =
     let named = h.named in
     record {
-      begins = (refl, cause_none blank_draft keys.Go (sentence_of (codes "go" ∷ g.name ∷ [])) (record { word = rw named refl; number = refl; limit = refl; twice = no_goroutine_yet g.name; unknown = refl; nesting = refl }));
+      begins = (refl, cause_none blank_draft Key.Go (sentence_of (codes "go" ∷ g.name ∷ [])) (record { word = rw named refl; number = refl; limit = refl; twice = no_goroutine_yet g.name; unknown = refl; nesting = refl }));
       block = IsBlock-block_of Nothing g.statements h.says tt;
-      ends = (refl, cause_none (inside given names) keys.End (sentence_of (codes "end" ∷ [])) (record { word = refl; number = refl; limit = refl; twice = refl; unknown = refl; nesting = refl }));
+      ends = (refl, cause_none (inside given names) Key.End (sentence_of (codes "end" ∷ [])) (record { word = refl; number = refl; limit = refl; twice = refl; unknown = refl; nesting = refl }));
     }
 
 routines_right : (gs : List Goroutine) → All IsRight gs → All (IsRoutine given names) (map routine_of gs)

@@ -1,18 +1,7 @@
 -- The lines of a generated script say its statements.
-use Rattle.std.proofs.Common.{◌≡◌, ℕ, zero, suc, ◌+◌, ◌/◌, ◌%◌, ◌<◌, Bool, true, cond, List, [], ◌∷◌, ◌++◌, length, Some, refl, sym, ap, subst, arith, le-ltb}
-use Rattle.std.specs.Prelude.{decimal, codes}
-use Rattle.std.specs.List.{list_all}
-use Rattle.std.proofs.lemmas.Bool.{lt-leb}
-use Rattle.std.proofs.lemmas.Fmt.{decimal_digit}
-use Rattle.gh_script.specs.declared.given.Given.{Given}
-use Rattle.gh_script.specs.declared.key.Key.TheVariants as keys
-use Rattle.gh_script.specs.declared.statement.Stmt.{Stmt}
+use Rattle.std.proofs.Common.{◌≡◌, ℕ, zero, suc, ◌+◌, ◌/◌, ◌%◌, ◌<◌, Bool, true, cond, List, [], ◌∷◌, ◌++◌, length, Some, refl, sym, ap, subst, arith, le-ltb, decimal, codes}
+use Rattle.gh_script.proofs.Vocabulary.{block_key_of, decimal_digit, digits_value_of, generated_name, Given, inside, is_name, IsTaken, KeepsTo, Key, key_of, list_all, lt-leb, number_spelled, register_named, sentence_of, setting_named, statement_by, statement_by_key, statement_key_of, statement_words, Stmt, type_of, value_from}
 use Rattle.gh_script.specs.declared.statement.Stmt.TheVariants.{New, Load, Store, GetGlobal, SetGlobal, Move, Nil}
-use Rattle.gh_script.specs.Form.{inside, IsTaken, statement_by_key}
-use Rattle.gh_script.specs.Generated.{generated_name, KeepsTo, statement_by, statement_words}
-use Rattle.gh_script.specs.Text.{sentence_of}
-use Rattle.gh_script.specs.Words.{register_named, number_spelled, digits_value_of, value_from, is_name, key_of, setting_named, block_key_of, statement_key_of}
-use Rattle.gh_script.specs.Draft.{type_of}
 use Rattle.gh_script.proofs.FormSaid.{cause_none, taken_by}
 use Rattle.gh_script.proofs.Spelled.{is_plain, is_line, both_true, line_made}
 
@@ -75,8 +64,8 @@ unfolding key_of setting_named block_key_of statement_key_of type_of is_name
 new_says d rd e p l = record {
   fits = line_made (codes "new") (rd ∷ codes "node" ∷ []) (three_plain (codes "new") rd (codes "node") refl p refl) (omega arith);
   said = rw e refl;
-  taken = taken_by (inside given names) (sentence_of (codes "new" ∷ rd ∷ codes "node" ∷ [])) keys.New refl
-      (cause_none (inside given names) keys.New (sentence_of (codes "new" ∷ rd ∷ codes "node" ∷ [])) (record { word = rw e refl; number = refl; limit = refl; twice = refl; unknown = refl; nesting = refl }));
+  taken = taken_by (inside given names) (sentence_of (codes "new" ∷ rd ∷ codes "node" ∷ [])) Key.New refl
+      (cause_none (inside given names) Key.New (sentence_of (codes "new" ∷ rd ∷ codes "node" ∷ [])) (record { word = rw e refl; number = refl; limit = refl; twice = refl; unknown = refl; nesting = refl }));
 }
 
 pub store_says : (b k v : ℕ) (rb dk rv : List ℕ) → register_named rb ≡ Some b → number_spelled dk ≡ Some k → register_named rv ≡ Some v → is_plain rb ≡ true → is_plain dk ≡ true → is_plain rv ≡ true
@@ -85,8 +74,8 @@ unfolding key_of setting_named block_key_of statement_key_of
 store_says b k v rb dk rv e f g p q r l m n few = record {
   fits = line_made (codes "store") (rb ∷ dk ∷ rv ∷ []) (four_plain (codes "store") rb dk rv refl p q r) (omega arith);
   said = rw (e, f, g) refl;
-  taken = taken_by (inside given names) (sentence_of (codes "store" ∷ rb ∷ dk ∷ rv ∷ [])) keys.Store refl
-      (cause_none (inside given names) keys.Store (sentence_of (codes "store" ∷ rb ∷ dk ∷ rv ∷ [])) (record { word = rw (e, g) refl; number = rw f refl; limit = rw f (le-ltb 65535 k (omega arith)); twice = refl; unknown = refl; nesting = refl }));
+  taken = taken_by (inside given names) (sentence_of (codes "store" ∷ rb ∷ dk ∷ rv ∷ [])) Key.Store refl
+      (cause_none (inside given names) Key.Store (sentence_of (codes "store" ∷ rb ∷ dk ∷ rv ∷ [])) (record { word = rw (e, g) refl; number = rw f refl; limit = rw f (le-ltb 65535 k (omega arith)); twice = refl; unknown = refl; nesting = refl }));
 }
 
 pub load_says : (d b k : ℕ) (rd rb dk : List ℕ) → register_named rd ≡ Some d → register_named rb ≡ Some b → number_spelled dk ≡ Some k → is_plain rd ≡ true → is_plain rb ≡ true → is_plain dk ≡ true
@@ -95,8 +84,8 @@ unfolding key_of setting_named block_key_of statement_key_of
 load_says d b k rd rb dk e f g p q r l m n few = record {
   fits = line_made (codes "load") (rd ∷ rb ∷ dk ∷ []) (four_plain (codes "load") rd rb dk refl p q r) (omega arith);
   said = rw (e, f, g) refl;
-  taken = taken_by (inside given names) (sentence_of (codes "load" ∷ rd ∷ rb ∷ dk ∷ [])) keys.Load refl
-      (cause_none (inside given names) keys.Load (sentence_of (codes "load" ∷ rd ∷ rb ∷ dk ∷ [])) (record { word = rw (e, f) refl; number = rw g refl; limit = rw g (le-ltb 65535 k (omega arith)); twice = refl; unknown = refl; nesting = refl }));
+  taken = taken_by (inside given names) (sentence_of (codes "load" ∷ rd ∷ rb ∷ dk ∷ [])) Key.Load refl
+      (cause_none (inside given names) Key.Load (sentence_of (codes "load" ∷ rd ∷ rb ∷ dk ∷ [])) (record { word = rw (e, f) refl; number = rw g refl; limit = rw g (le-ltb 65535 k (omega arith)); twice = refl; unknown = refl; nesting = refl }));
 }
 
 pub set_says : (k v : ℕ) (dk rv : List ℕ) → number_spelled dk ≡ Some k → register_named rv ≡ Some v → is_plain dk ≡ true → is_plain rv ≡ true → length dk ≡ 1 → length rv ≡ 2 → k < 4 → Says (codes "gstore" ∷ dk ∷ rv ∷ []) (SetGlobal k v)
@@ -104,8 +93,8 @@ unfolding key_of setting_named block_key_of statement_key_of
 set_says k v dk rv e f p q l m few = record {
   fits = line_made (codes "gstore") (dk ∷ rv ∷ []) (three_plain (codes "gstore") dk rv refl p q) (omega arith);
   said = rw (e, f) refl;
-  taken = taken_by (inside given names) (sentence_of (codes "gstore" ∷ dk ∷ rv ∷ [])) keys.SetGlobal refl
-      (cause_none (inside given names) keys.SetGlobal (sentence_of (codes "gstore" ∷ dk ∷ rv ∷ [])) (record { word = rw f refl; number = rw e refl; limit = rw e (lt-leb 4 k few); twice = refl; unknown = refl; nesting = refl }));
+  taken = taken_by (inside given names) (sentence_of (codes "gstore" ∷ dk ∷ rv ∷ [])) Key.SetGlobal refl
+      (cause_none (inside given names) Key.SetGlobal (sentence_of (codes "gstore" ∷ dk ∷ rv ∷ [])) (record { word = rw f refl; number = rw e refl; limit = rw e (lt-leb 4 k few); twice = refl; unknown = refl; nesting = refl }));
 }
 
 pub get_says : (d k : ℕ) (rd dk : List ℕ) → register_named rd ≡ Some d → number_spelled dk ≡ Some k → is_plain rd ≡ true → is_plain dk ≡ true → length rd ≡ 2 → length dk ≡ 1 → k < 4 → Says (codes "gload" ∷ rd ∷ dk ∷ []) (GetGlobal d k)
@@ -113,8 +102,8 @@ unfolding key_of setting_named block_key_of statement_key_of
 get_says d k rd dk e f p q l m few = record {
   fits = line_made (codes "gload") (rd ∷ dk ∷ []) (three_plain (codes "gload") rd dk refl p q) (omega arith);
   said = rw (e, f) refl;
-  taken = taken_by (inside given names) (sentence_of (codes "gload" ∷ rd ∷ dk ∷ [])) keys.GetGlobal refl
-      (cause_none (inside given names) keys.GetGlobal (sentence_of (codes "gload" ∷ rd ∷ dk ∷ [])) (record { word = rw e refl; number = rw f refl; limit = rw f (lt-leb 4 k few); twice = refl; unknown = refl; nesting = refl }));
+  taken = taken_by (inside given names) (sentence_of (codes "gload" ∷ rd ∷ dk ∷ [])) Key.GetGlobal refl
+      (cause_none (inside given names) Key.GetGlobal (sentence_of (codes "gload" ∷ rd ∷ dk ∷ [])) (record { word = rw e refl; number = rw f refl; limit = rw f (lt-leb 4 k few); twice = refl; unknown = refl; nesting = refl }));
 }
 
 pub move_says : (d s : ℕ) (rd rs : List ℕ) → register_named rd ≡ Some d → register_named rs ≡ Some s → is_plain rd ≡ true → is_plain rs ≡ true → length rd ≡ 2 → length rs ≡ 2 → Says (codes "move" ∷ rd ∷ rs ∷ []) (Move d s)
@@ -122,8 +111,8 @@ unfolding key_of setting_named block_key_of statement_key_of
 move_says d s rd rs e f p q l m = record {
   fits = line_made (codes "move") (rd ∷ rs ∷ []) (three_plain (codes "move") rd rs refl p q) (omega arith);
   said = rw (e, f) refl;
-  taken = taken_by (inside given names) (sentence_of (codes "move" ∷ rd ∷ rs ∷ [])) keys.Move refl
-      (cause_none (inside given names) keys.Move (sentence_of (codes "move" ∷ rd ∷ rs ∷ [])) (record { word = rw (e, f) refl; number = refl; limit = refl; twice = refl; unknown = refl; nesting = refl }));
+  taken = taken_by (inside given names) (sentence_of (codes "move" ∷ rd ∷ rs ∷ [])) Key.Move refl
+      (cause_none (inside given names) Key.Move (sentence_of (codes "move" ∷ rd ∷ rs ∷ [])) (record { word = rw (e, f) refl; number = refl; limit = refl; twice = refl; unknown = refl; nesting = refl }));
 }
 
 pub nil_says : (d : ℕ) (rd : List ℕ) → register_named rd ≡ Some d → is_plain rd ≡ true → length rd ≡ 2 → Says (codes "nil" ∷ rd ∷ []) (Nil d)
@@ -131,8 +120,8 @@ unfolding key_of setting_named block_key_of statement_key_of
 nil_says d rd e p l = record {
   fits = line_made (codes "nil") (rd ∷ []) (two_plain (codes "nil") rd refl p) (omega arith);
   said = rw e refl;
-  taken = taken_by (inside given names) (sentence_of (codes "nil" ∷ rd ∷ [])) keys.Nil refl
-      (cause_none (inside given names) keys.Nil (sentence_of (codes "nil" ∷ rd ∷ [])) (record { word = rw e refl; number = refl; limit = refl; twice = refl; unknown = refl; nesting = refl }));
+  taken = taken_by (inside given names) (sentence_of (codes "nil" ∷ rd ∷ [])) Key.Nil refl
+      (cause_none (inside given names) Key.Nil (sentence_of (codes "nil" ∷ rd ∷ [])) (record { word = rw e refl; number = refl; limit = refl; twice = refl; unknown = refl; nesting = refl }));
 }
 
 -- ---- the statement of a word

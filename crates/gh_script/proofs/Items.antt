@@ -1,10 +1,8 @@
 -- The items of a shape from a place on.
 use Rattle.std.proofs.Common.{◌≡◌, ℕ, ◌+◌, ◌<◌, ◌≤◌, Bool, true, false, eqb, leb, ◌&&◌, List, [], ◌∷◌, ◌++◌, length, get_or, take, drop, replicate, refl, sym, ap, ◌∙◌, append_assoc, arith}
-use Rattle.std.specs.List.{list_all, position_or_len, before_first}
-use Rattle.std.proofs.lemmas.List.{at_drop_more, at_drop_all, append-nil, length-append, length-replicate}
+use Rattle.std.proofs.lemmas.List.{append-nil, length-append}
 use Rattle.std.proofs.lemmas.Bool.{le-leb, leb-true}
-use Rattle.gh_class.specs.declared.class.TheConstants.{MOST_TYPE_WORDS}
-use Rattle.gh_script.specs.ShapeText.{is_kind, Item, items_of, fields_in, count_fits, total_in, fits_behind, fits_limits, spread, fields_of}
+use Rattle.gh_script.proofs.Vocabulary.{at_drop_all, at_drop_more, before_first, count_fits, fields_in, fields_of, fits_behind, fits_limits, is_kind, Item, items_of, length-replicate, list_all, MOST_TYPE_WORDS, position_or_len, spread, total_in}
 
 kind_first : (c : ℕ) (cs : List ℕ) → is_kind c ≡ true → items_of (c ∷ cs) ≡ record { pointer = eqb c 112; tail = before_first is_kind cs } ∷ items_of cs
 unfolding items_of

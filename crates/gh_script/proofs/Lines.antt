@@ -1,13 +1,7 @@
 -- Lines read one by one.
 use Rattle.std.proofs.Common.{◌≡◌, ℕ, ◌+◌, ◌<◌, ◌≤◌, List, [], ◌∷◌, length, take, drop, map, Ok, Err, refl, sym, ap, ◌∙◌, arith, inl, inr}
-use Rattle.std.specs.List.{position_or_len}
-use Rattle.std.proofs.lemmas.Bool.{cases_lt}
-use Rattle.std.proofs.lemmas.List.{take_all, drop_all, length-drop, nil_from_length}
-use Rattle.gh_script.specs.declared.fault.ParseError.{ParseError}
-use Rattle.gh_script.specs.Text.{is_feed, pieces, without_return, lines_of, words_of, sentence_of}
-use Rattle.gh_script.specs.Draft.{Draft, IsSound}
-use Rattle.gh_script.specs.Grammar.{read_line, read_lines, go_on}
-use Rattle.gh_script.specs.Outcome.{Continues, ReadsAll}
+use Rattle.std.proofs.lemmas.List.{take_all, length-drop}
+use Rattle.gh_script.proofs.Vocabulary.{cases_lt, Continues, Draft, drop_all, go_on, is_feed, IsSound, lines_of, nil_from_length, ParseError, pieces, position_or_len, read_line, read_lines, ReadsAll, sentence_of, without_return, words_of}
 use Rattle.gh_script.proofs.Pieces.{pieces_first, pieces_last}
 use Rattle.gh_script.proofs.Sound.{IsSound-read_line}
 

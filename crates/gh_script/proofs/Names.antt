@@ -1,12 +1,8 @@
 -- A name is text.
 use Rattle.std.proofs.Common.{◌≡◌, ℕ, zero, suc, ◌<◌, ◌≤◌, Bool, true, ltb, ◌&&◌, List, [], ◌∷◌, length, get_or, refl, arith, inl, inr}
-use Rattle.std.specs.List.{list_all}
-use Rattle.std.specs.Str.{IsUtf8, IsAscii}
-use Rattle.std.proofs.lemmas.Bool.{ltb-true, cases_lt}
-use Rattle.std.proofs.lemmas.List.{get_or_past}
+use Rattle.std.proofs.lemmas.Bool.{ltb-true}
 use Rattle.std.proofs.lemmas.List.Recursion.{and_at}
-use Rattle.std.proofs.lemmas.Str.{IsUtf8-from_ascii}
-use Rattle.gh_script.specs.Words.{is_letter, is_name_byte, is_name}
+use Rattle.gh_script.proofs.Vocabulary.{cases_lt, get_or_past, is_letter, is_name, is_name_byte, IsAscii, IsUtf8, IsUtf8-from_ascii, list_all}
 
 pub and_left : (a b : Bool) → (a && b) ≡ true → a ≡ true
 and_left a b h = grind arith

@@ -1,9 +1,7 @@
 -- Numbers read digit by digit.
 use Rattle.std.proofs.Common.{◌≡◌, ℕ, ◌+◌, ◌-◌, ◌*◌, ◌^◌, ◌<◌, ◌≤◌, Bool, cond, ltb, ◌&&◌, List, [], ◌∷◌, length, get_or, drop, Option, Some, None, refl, sym, ◌∙◌, arith}
-use Rattle.std.specs.List.{list_all}
-use Rattle.std.proofs.lemmas.List.{at_drop_more, at_drop_all}
 use Rattle.std.proofs.lemmas.Bool.{lt-ltb}
-use Rattle.gh_script.specs.Words.{is_digit, value_from, digits_value_of}
+use Rattle.gh_script.proofs.Vocabulary.{at_drop_all, at_drop_more, digits_value_of, is_digit, list_all, value_from}
 
 -- the number that digits spell behind a number, where each front of it is below the limit
 unfoldable pub reads_from : ℕ → ℕ → List ℕ → Option ℕ

@@ -1,11 +1,8 @@
 -- Fields packed 64 a word.
 use Rattle.std.proofs.Common.{◌≡◌, ℕ, zero, suc, ◌+◌, ◌-◌, ◌*◌, ◌/◌, ◌^◌, ◌<◌, ◌≤◌, min, Bool, false, cond, List, [], ◌∷◌, ◌++◌, length, get_or, take, drop, map, refl, sym, ap, ◌∙◌, arith}
-use Rattle.std.specs.Int.{from_bool}
-use Rattle.std.specs.List.{range_with_len}
-use Rattle.std.proofs.lemmas.List.{drop_all, take_min, take_rest, length-drop, at_drop_more}
-use Rattle.std.proofs.lemmas.List.FromFn.{map-range_with_len_more}
+use Rattle.std.proofs.lemmas.List.{length-drop}
 use Rattle.std.proofs.Math.Nat.{two-pow-succ, min_comm}
-use Rattle.gh_script.specs.ShapeText.{bits_as_number, packed}
+use Rattle.gh_script.proofs.Vocabulary.{at_drop_more, bits_as_number, drop_all, from_bool, map-range_with_len_more, packed, range_with_len, take_min, take_rest}
 
 two_pow_pos : (n : ℕ) → 0 < 2 ^ n
 two_pow_pos zero = omega arith

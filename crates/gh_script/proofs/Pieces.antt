@@ -1,10 +1,7 @@
 -- The pieces of a text, and the words of a line, from the front on.
-use Rattle.std.proofs.Common.{◌≡◌, ℕ, suc, ◌+◌, ◌<◌, ◌≤◌, Bool, true, false, not, cond, List, [], ◌∷◌, length, get_or, take, drop, refl, sym, ap, ◌∙◌, arith}
-use Rattle.std.specs.Prelude.{filter}
-use Rattle.std.specs.List.{position_or_len, prefix_len, before_first, after_first}
-use Rattle.std.proofs.lemmas.List.Sums.{position_or_len_is, prefix_len_is, passes_at_first}
-use Rattle.std.proofs.lemmas.List.{drop_more, take_all, drop_all, nil_from_length, length-take}
-use Rattle.gh_script.specs.Text.{with_front, word_in_front, pieces, is_blank, is_filled, words_of, sentence_of}
+use Rattle.std.proofs.Common.{◌≡◌, ℕ, suc, ◌+◌, ◌<◌, ◌≤◌, Bool, true, false, not, cond, List, [], ◌∷◌, length, get_or, take, drop, refl, sym, ap, ◌∙◌, arith, filter}
+use Rattle.std.proofs.lemmas.List.{take_all, length-take}
+use Rattle.gh_script.proofs.Vocabulary.{after_first, before_first, drop_all, drop_more, is_blank, is_filled, nil_from_length, passes_at_first, pieces, position_or_len, position_or_len_is, prefix_len, prefix_len_is, sentence_of, with_front, word_in_front, words_of}
 
 -- a loop that ends without having met the test
 pub met_nowhere : (test : ℕ → Bool) (xs : List ℕ) (n : ℕ) → length xs ≤ n → ((k : ℕ) → k < n → test (get_or xs k 0) ≡ false) → length xs ≡ position_or_len test xs

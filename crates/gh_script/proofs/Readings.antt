@@ -1,18 +1,7 @@
 -- What is read of a text as a whole.
-use Rattle.std.proofs.Common.{◌≡◌, ℕ, ◌<◌, ◌≤◌, Bool, true, false, List, length, Option, Some, Result, Ok, Err, refl, sym, ap, ◌∙◌, arith}
-use Rattle.std.specs.Prelude.{unwrap_or}
-use Rattle.std.specs.Str.{IsUtf8, is_utf8}
+use Rattle.std.proofs.Common.{◌≡◌, ℕ, ◌<◌, ◌≤◌, Bool, true, false, List, length, Option, Some, Result, Ok, Err, refl, sym, ap, ◌∙◌, arith, unwrap_or}
 use Rattle.std.proofs.lemmas.Bool.{lt-ltb, le-ltb}
-use Rattle.std.proofs.lemmas.Str.{IsUtf8-from_is_utf8}
-use Rattle.gh_script.specs.declared.fault.Why.TheVariants.{Size, Utf8}
-use Rattle.gh_script.specs.declared.fault.ScriptFault.{ScriptFault}
-use Rattle.gh_script.specs.declared.fault.ParseError.{ParseError}
-use Rattle.gh_script.specs.declared.key.Setting.TheVariants as settings
-use Rattle.gh_script.specs.Program.{Program}
-use Rattle.gh_script.specs.Text.{lines_of}
-use Rattle.gh_script.specs.Draft.{Draft, IsSound, blank_draft}
-use Rattle.gh_script.specs.Grammar.{read_lines, then_end, read_end, reading_of, line_fault}
-use Rattle.gh_script.specs.Outcome.{ReadsAll, EndsAsRead}
+use Rattle.gh_script.proofs.Vocabulary.{blank_draft, Draft, EndsAsRead, is_utf8, IsSound, IsUtf8, IsUtf8-from_is_utf8, line_fault, lines_of, ParseError, Program, read_end, read_lines, reading_of, ReadsAll, ScriptFault, Setting, Size, then_end, Utf8}
 
 not_true : (b : Bool) → (b ≡ true → ⊥) → false ≡ b
 not_true b h = grind arith
@@ -47,7 +36,7 @@ arena_few : (arena : Option ℕ) → ((n : ℕ) → arena ≡ Some n → (16 ≤
 arena_few arena h = grind arith
 
 pub arena-le : (draft : Draft) → IsSound draft → unwrap_or draft.given.arena 256 ≤ 1024
-arena-le draft sound = arena_few draft.given.arena (sound.given settings.Arena)
+arena-le draft sound = arena_few draft.given.arena (sound.given Setting.Arena)
 
 pub reading_of-from : (text : List ℕ) (blank : Draft) → length text ≤ 4194304 → is_utf8 text ≡ true → blank ≡ blank_draft → reading_of text ≡ then_end (length (lines_of text)) (read_lines blank 0 (lines_of text))
 reading_of-from text blank h e same = rw same (reading_of-text text h e)

@@ -1,19 +1,9 @@
 -- The bits of a shape are its fields.
-use Rattle.std.proofs.Common.{◌≡◌, ℕ, zero, suc, ◌+◌, ◌*◌, ◌/◌, ◌%◌, ◌≤◌, Bool, true, false, not, cond, eqb, leb, List, [], ◌∷◌, length, get_or, take, drop, refl, sym, ap, ◌∙◌, arith, inl, inr}
-use Rattle.std.specs.Prelude.{All}
-use Rattle.std.specs.List.{list_any, list_all}
-use Rattle.std.specs.Int.{bit_at}
-use Rattle.std.proofs.lemmas.Bool.{cases_lt, leb-true}
-use Rattle.std.proofs.lemmas.List.{get_or-take, get_or-drop, get_or_past, drop_all, length-take}
-use Rattle.std.proofs.lemmas.List.Elements.{All-from_get_or, All-get_or}
-use Rattle.std.proofs.lemmas.List.Folds.{list_any_at, list_any_none}
-use Rattle.std.proofs.lemmas.List.FromFn.{length-map-range_with_len, get_or-map-range_with_len}
+use Rattle.std.proofs.Common.{◌≡◌, ℕ, zero, suc, ◌+◌, ◌*◌, ◌/◌, ◌%◌, ◌≤◌, Bool, true, false, not, cond, eqb, leb, List, [], ◌∷◌, length, get_or, take, drop, refl, sym, ap, ◌∙◌, arith, inl, inr, All}
+use Rattle.std.proofs.lemmas.Bool.{leb-true}
+use Rattle.std.proofs.lemmas.List.{get_or-take, get_or-drop, length-take}
 use Rattle.std.proofs.lemmas.Nat.Bits.{bit_at-zero, bit_at_lowest, bit_at-suc}
-use Rattle.gh_class.specs.declared.class.TheConstants.{MOST_TYPE_WORDS}
-use Rattle.gh_base.specs.declared.shape.Shape.{Shape}
-use Rattle.gh_base.specs.Shapes.{is_pointer, no_shape, FitsShape, ShapesFit}
-use Rattle.gh_script.specs.Program.{IsPacked}
-use Rattle.gh_script.specs.ShapeText.{is_kind, Item, items_of, are_letters, fields_in, count_fits, total_in, fits_behind, fits_limits, fields_of, bits_as_number, packed, shape_with}
+use Rattle.gh_script.proofs.Vocabulary.{All-from_get_or, All-get_or, are_letters, bit_at, bits_as_number, cases_lt, count_fits, drop_all, fields_in, fields_of, fits_behind, fits_limits, FitsShape, get_or-map-range_with_len, get_or_past, is_kind, is_pointer, IsPacked, Item, items_of, length-map-range_with_len, list_all, list_any, list_any_at, list_any_none, MOST_TYPE_WORDS, no_shape, packed, Shape, shape_with, ShapesFit, total_in}
 use Rattle.gh_script.proofs.Items.{length-fields_of, length-spread, items_of-first}
 use Rattle.gh_script.proofs.Names.{and_left}
 use Rattle.gh_script.proofs.Packing.{word_of-lt}

@@ -1,6 +1,5 @@
 -- Each line that is read keeps the draft sound.
 use Rattle.std.proofs.Common.{◌≡◌, ℕ, ◌+◌, ◌-◌, ◌^◌, ◌<◌, ◌≤◌, Bool, true, false, not, cond, eqb, ltb, leb, ◌&&◌, ◌||◌, List, [], ◌∷◌, ◌++◌, length, take, drop, Option, Some, None, Result, Ok, refl, sym, ap, ◌∙◌, subst, arith, inl, inr, ◌⊎◌, unwrap_or, is_some, All, ◌≢◌, sum_by, leb-true, leb-false}
-use Rattle.gh_script.specs.declared.key.Key.TheVariants as keys
 use Rattle.gh_script.proofs.Vocabulary.{All-append, All-cons, All-drop, All-head, All-nil, All-push, All-take, all_pairs_push, are_letters, are_too_many, AreNamedApart, AreOpenStatements, AreStatements, block_ended, bytes_eq, bytes_eq-Decides, cause_at, continued, digits_value_of, Draft, fields_of, finished_goroutine, FitsShape, Given, given_at, globals_in, Goroutine, goroutines_begun, has_goroutine, is_digit, is_name, is_skipped, is_too_long, IsNamed, IsNewName, IsOpenNamed, IsPacked, IsSound, IsStatement, just_begun, kept, Key, key_of, length_push, list_all, list_any, nil_from_length, number_in, number_spelled, Open, option_and_then, option_map, option_to_list, read_cause, read_key, read_line, register_in, register_named, Repeat, repeat, Sentence, Setting, shape_with, statement_of, statements_in, Stmt, sum_by-append, value_from, Why, with_closed, with_given, with_repeat, with_statement, written_out}
 use Rattle.gh_script.proofs.Allowed.{allowed, left_false, right_false, not_false, setting_small, load_small, store_small, get_small, set_small, type_fits, type_few, type_of-lt}
 use Rattle.gh_script.proofs.Names.{and_right}
@@ -35,15 +34,15 @@ single : (P : Stmt → Type 0) (s : Stmt) → P s → All P (s ∷ [])
 single P s h = All-cons P s [] h (All-nil P)
 
 statement_keeps : (draft : Draft) (key : Key) (line : Sentence) → cause_at draft key line ≡ None → All (IsStatement (globals_in draft.given) (length draft.names)) (option_to_list (statement_of draft.names key line))
-statement_keeps draft keys.New line h = single (IsStatement (globals_in draft.given) (length draft.names)) _ (register_small line.second, type_of-lt draft keys.New line h refl)
-statement_keeps draft keys.Load line h = single (IsStatement (globals_in draft.given) (length draft.names)) _ (register_small line.second, register_small line.third, load_small draft keys.Load line h refl)
-statement_keeps draft keys.Store line h = single (IsStatement (globals_in draft.given) (length draft.names)) _ (register_small line.second, store_small draft keys.Store line h refl, register_small line.fourth)
-statement_keeps draft keys.GetGlobal line h = single (IsStatement (globals_in draft.given) (length draft.names)) _ (register_small line.second, get_small draft keys.GetGlobal line h refl)
-statement_keeps draft keys.SetGlobal line h = single (IsStatement (globals_in draft.given) (length draft.names)) _ (set_small draft keys.SetGlobal line h refl, register_small line.third)
-statement_keeps draft keys.Int line h = single (IsStatement (globals_in draft.given) (length draft.names)) _ (register_small line.second, number_small line.third)
-statement_keeps draft keys.Move line h = single (IsStatement (globals_in draft.given) (length draft.names)) _ (register_small line.second, register_small line.third)
-statement_keeps draft keys.Nil line h = single (IsStatement (globals_in draft.given) (length draft.names)) _ (register_small line.second)
-statement_keeps draft keys.Gc line h = single (IsStatement (globals_in draft.given) (length draft.names)) _ tt
+statement_keeps draft Key.New line h = single (IsStatement (globals_in draft.given) (length draft.names)) _ (register_small line.second, type_of-lt draft Key.New line h refl)
+statement_keeps draft Key.Load line h = single (IsStatement (globals_in draft.given) (length draft.names)) _ (register_small line.second, register_small line.third, load_small draft Key.Load line h refl)
+statement_keeps draft Key.Store line h = single (IsStatement (globals_in draft.given) (length draft.names)) _ (register_small line.second, store_small draft Key.Store line h refl, register_small line.fourth)
+statement_keeps draft Key.GetGlobal line h = single (IsStatement (globals_in draft.given) (length draft.names)) _ (register_small line.second, get_small draft Key.GetGlobal line h refl)
+statement_keeps draft Key.SetGlobal line h = single (IsStatement (globals_in draft.given) (length draft.names)) _ (set_small draft Key.SetGlobal line h refl, register_small line.third)
+statement_keeps draft Key.Int line h = single (IsStatement (globals_in draft.given) (length draft.names)) _ (register_small line.second, number_small line.third)
+statement_keeps draft Key.Move line h = single (IsStatement (globals_in draft.given) (length draft.names)) _ (register_small line.second, register_small line.third)
+statement_keeps draft Key.Nil line h = single (IsStatement (globals_in draft.given) (length draft.names)) _ (register_small line.second)
+statement_keeps draft Key.Gc line h = single (IsStatement (globals_in draft.given) (length draft.names)) _ tt
 statement_keeps draft key line h = All-nil (IsStatement (globals_in draft.given) (length draft.names))
 
 -- ---- settings
@@ -64,13 +63,13 @@ unbegun draft h =
 
 -- ---- one line
 
-set_sound : (draft : Draft) (x : Setting) (line : Sentence) → IsSound draft → cause_at draft (keys.Setting x) line ≡ None → IsSound (continued draft (keys.Setting x) line)
+set_sound : (draft : Draft) (x : Setting) (line : Sentence) → IsSound draft → cause_at draft (Key.Setting x) line ≡ None → IsSound (continued draft (Key.Setting x) line)
 unfolding continued
 set_sound draft x line s h =
-    let a = allowed draft (keys.Setting x) line h in
+    let a = allowed draft (Key.Setting x) line h in
     let u = unbegun draft a.nesting in
     let n = number_in line.second in
-    let limits = setting_small draft (keys.Setting x) line x h refl in
+    let limits = setting_small draft (Key.Setting x) line x h refl in
     let good = AreStatements (globals_in (with_given draft.given x n)) (length draft.names) in
     record {
       given = λ y m e. elim (given_cases draft.given x n y m e) [
@@ -91,14 +90,14 @@ set_sound draft x line s h =
       few_statements = s.few_statements;
     }
 
-type_sound : (draft : Draft) (line : Sentence) → IsSound draft → cause_at draft keys.Type line ≡ None → IsSound (continued draft keys.Type line)
+type_sound : (draft : Draft) (line : Sentence) → IsSound draft → cause_at draft Key.Type line ≡ None → IsSound (continued draft Key.Type line)
 unfolding continued
 type_sound draft line s h =
-    let a = allowed draft keys.Type line h in
+    let a = allowed draft Key.Type line h in
     let u = unbegun draft a.nesting in
     let letters = not_false (are_letters line.third) (right_false (not (is_name line.second)) (not (are_letters line.third)) (right_false (not (eqb line.count 3)) _ a.word)) in
-    let shape = FitsShape-text line.third letters (type_fits draft keys.Type line h refl) in
-    let few = type_few draft keys.Type line h refl in
+    let shape = FitsShape-text line.third letters (type_fits draft Key.Type line h refl) in
+    let few = type_few draft Key.Type line h refl in
     record {
       given = s.given;
       types = omega (arith, length_push draft.names line.second);
@@ -129,10 +128,10 @@ new_name draft word h = differs word draft.closed (left_false (list_any (λ g. b
 none_open : (o : Option Open) → is_some o ≡ false → length (option_to_list o) ≡ 0
 none_open o h = grind arith
 
-begin_sound : (draft : Draft) (line : Sentence) → IsSound draft → cause_at draft keys.Go line ≡ None → IsSound (continued draft keys.Go line)
+begin_sound : (draft : Draft) (line : Sentence) → IsSound draft → cause_at draft Key.Go line ≡ None → IsSound (continued draft Key.Go line)
 unfolding continued
 begin_sound draft line s h =
-    let a = allowed draft keys.Go line h in
+    let a = allowed draft Key.Go line h in
     let few : goroutines_begun draft < 32 = leb-false 32 (goroutines_begun draft) a.limit in
     let none = none_open draft.current a.nesting in
     let name = not_false (is_name line.second) (right_false (not (eqb line.count 2)) (not (is_name line.second)) a.word) in
@@ -297,11 +296,11 @@ end_sound draft (Some g) s e h = end_by draft g (eqb (length g.repeats) 0) s e h
 
 IsSound-continued : (draft : Draft) (key : Key) (line : Sentence) → IsSound draft → cause_at draft key line ≡ None → IsSound (continued draft key line)
 unfolding continued
-IsSound-continued draft (keys.Setting x) line s h = set_sound draft x line s h
-IsSound-continued draft keys.Type line s h = type_sound draft line s h
-IsSound-continued draft keys.Go line s h = begin_sound draft line s h
-IsSound-continued draft keys.Repeat line s h = repeat_sound draft (number_in line.second) s
-IsSound-continued draft keys.End line s h = end_sound draft draft.current s refl (allowed draft keys.End line h).limit
+IsSound-continued draft (Key.Setting x) line s h = set_sound draft x line s h
+IsSound-continued draft Key.Type line s h = type_sound draft line s h
+IsSound-continued draft Key.Go line s h = begin_sound draft line s h
+IsSound-continued draft Key.Repeat line s h = repeat_sound draft (number_in line.second) s
+IsSound-continued draft Key.End line s h = end_sound draft draft.current s refl (allowed draft Key.End line h).limit
 IsSound-continued draft key line s h = say_sound draft key line s h
 
 cause_sound : (draft new : Draft) (key : Key) (line : Sentence) (cause : Option Why) → IsSound draft → cause_at draft key line ≡ cause → read_cause draft key line cause ≡ Ok new → IsSound new

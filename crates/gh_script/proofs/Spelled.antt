@@ -1,18 +1,9 @@
 -- Lines of words of letters and digits, with spaces and line feeds between them, are read back word for word.
-use Rattle.std.proofs.Common.{◌≡◌, ℕ, zero, suc, ◌+◌, ◌*◌, ◌<◌, ◌≤◌, Bool, true, false, not, cond, eqb, leb, ◌&&◌, List, [], ◌∷◌, ◌++◌, length, map, get_or, refl, sym, ap, subst, ◌∙◌, append_assoc, append-nil, arith, length-append}
-use Rattle.std.specs.Prelude.{filter, sum_by}
-use Rattle.std.specs.List.{flat_map, list_all, list_any}
-use Rattle.std.specs.Str.{IsAscii, is_utf8}
+use Rattle.std.proofs.Common.{◌≡◌, ℕ, zero, suc, ◌+◌, ◌*◌, ◌<◌, ◌≤◌, Bool, true, false, not, cond, eqb, leb, ◌&&◌, List, [], ◌∷◌, ◌++◌, length, map, get_or, refl, sym, ap, subst, ◌∙◌, append_assoc, append-nil, arith, length-append, filter, sum_by}
 use Rattle.std.proofs.lemmas.Bool.Decides.{nat_tests}
 use Rattle.std.proofs.lemmas.List.Concat.{length-flat_map}
-use Rattle.std.proofs.lemmas.List.Folds.{list_all-append}
-use Rattle.std.proofs.lemmas.Str.{IsUtf8-from_ascii, is_utf8-from_IsUtf8}
 use Rattle.std.proofs.lemmas.Str.Ascii.{IsAscii-cons, IsAscii-nil}
-use Rattle.gh_script.specs.Form.{said_in, sayings}
-use Rattle.gh_script.specs.Generated.{spaced, text_of}
-use Rattle.gh_script.specs.Grammar.{is_skipped}
-use Rattle.gh_script.specs.Text.{Sentence, with_front, pieces, is_feed, is_blank, is_filled, without_return, lines_of, words_of, sentence_of}
-use Rattle.gh_script.specs.Words.{is_name_byte}
+use Rattle.gh_script.proofs.Vocabulary.{flat_map, is_blank, is_feed, is_filled, is_name_byte, is_skipped, is_utf8, is_utf8-from_IsUtf8, IsAscii, IsUtf8-from_ascii, lines_of, list_all, list_all-append, list_any, pieces, said_in, sayings, Sentence, sentence_of, spaced, text_of, with_front, without_return, words_of}
 use Rattle.gh_script.proofs.Allowed.{left_false, right_false}
 use Rattle.gh_script.proofs.Pieces.{words_of-nil}
 

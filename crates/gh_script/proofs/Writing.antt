@@ -1,15 +1,8 @@
 -- The text of a generated script as it is written, line by line.
-use Rattle.std.proofs.Common.{◌≡◌, ℕ, zero, suc, ◌+◌, ◌*◌, ◌/◌, List, [], ◌∷◌, ◌++◌, map, Result, refl, sym, ap, ◌∙◌, append_assoc, append-nil, arith}
-use Rattle.std.specs.Prelude.{decimal, codes, OnOk}
-use Rattle.std.specs.List.{flat_map, range_with_len}
+use Rattle.std.proofs.Common.{◌≡◌, ℕ, zero, suc, ◌+◌, ◌*◌, ◌/◌, List, [], ◌∷◌, ◌++◌, map, Result, refl, sym, ap, ◌∙◌, append_assoc, append-nil, arith, decimal, codes, OnOk}
 use Rattle.std.proofs.lemmas.Grind.{flat_map-append}
-use Rattle.std.proofs.lemmas.List.{map-append}
-use Rattle.std.proofs.lemmas.List.FromFn.{map-range_with_len_more}
+use Rattle.gh_script.proofs.Vocabulary.{flat_map, generated_goroutine, generated_name, generated_program, generated_text, Goroutine, goroutine_lines, head_lines, map-append, map-range_with_len_more, range_with_len, spaced, state_behind, statement_by, statement_words, statements_drawn, Stmt, text_of, word_drawn}
 use Rattle.rand_xoshiro.specs.SplitMix64.{mix_u64}
-use Rattle.gh_script.specs.declared.statement.Stmt.{Stmt}
-use Rattle.gh_script.specs.declared.statement.Stmt.TheVariants as stmts
-use Rattle.gh_script.specs.Generated.{generated_goroutine, generated_name, generated_program, generated_text, goroutine_lines, head_lines, spaced, state_behind, statement_by, statement_words, statements_drawn, text_of, word_drawn}
-use Rattle.gh_script.specs.Program.{Goroutine}
 
 state_behind-suc : (state n : ℕ) → state_behind state (suc n) ≡ (mix_u64 (state_behind state n)).1
 unfolding state_behind
@@ -58,39 +51,39 @@ three_last : (a one b other c : List ℕ) → a ++ (one ++ (b ++ (other ++ (c ++
 three_last a one b other c =
     behind a (one ++ (b ++ (other ++ (c ++ 10 ∷ [])))) (one ++ (b ++ (other ++ (c ++ [])))) (behind one (b ++ (other ++ (c ++ 10 ∷ []))) (b ++ (other ++ (c ++ []))) (two_last b other c))
 
-pub new_line : (d t : ℕ) → codes "new r" ++ (decimal d ++ codes " node\n") ≡ spaced (statement_words (stmts.New d t)) ++ 10 ∷ []
+pub new_line : (d t : ℕ) → codes "new r" ++ (decimal d ++ codes " node\n") ≡ spaced (statement_words (Stmt.New d t)) ++ 10 ∷ []
 unfolding spaced statement_words
 new_line d t = ap (λ (l : List ℕ). codes "new r" ++ l) (behind (decimal d) (codes " node\n") (codes " node") refl)
 
-pub load_line : (d b k : ℕ) → codes "load r" ++ (decimal d ++ (codes " r" ++ (decimal b ++ (codes " " ++ (decimal k ++ 10 ∷ []))))) ≡ spaced (statement_words (stmts.Load d b k)) ++ 10 ∷ []
+pub load_line : (d b k : ℕ) → codes "load r" ++ (decimal d ++ (codes " r" ++ (decimal b ++ (codes " " ++ (decimal k ++ 10 ∷ []))))) ≡ spaced (statement_words (Stmt.Load d b k)) ++ 10 ∷ []
 unfolding spaced statement_words
 load_line d b k = ap (λ (l : List ℕ). codes "load r" ++ l) (three_last (decimal d) (codes " r") (decimal b) (codes " ") (decimal k))
 
-pub store_line : (b k v : ℕ) → codes "store r" ++ (decimal b ++ (codes " " ++ (decimal k ++ (codes " r" ++ (decimal v ++ 10 ∷ []))))) ≡ spaced (statement_words (stmts.Store b k v)) ++ 10 ∷ []
+pub store_line : (b k v : ℕ) → codes "store r" ++ (decimal b ++ (codes " " ++ (decimal k ++ (codes " r" ++ (decimal v ++ 10 ∷ []))))) ≡ spaced (statement_words (Stmt.Store b k v)) ++ 10 ∷ []
 unfolding spaced statement_words
 store_line b k v = ap (λ (l : List ℕ). codes "store r" ++ l) (three_last (decimal b) (codes " ") (decimal k) (codes " r") (decimal v))
 
-pub get_line : (d k : ℕ) → codes "gload r" ++ (decimal d ++ (codes " " ++ (decimal k ++ 10 ∷ []))) ≡ spaced (statement_words (stmts.GetGlobal d k)) ++ 10 ∷ []
+pub get_line : (d k : ℕ) → codes "gload r" ++ (decimal d ++ (codes " " ++ (decimal k ++ 10 ∷ []))) ≡ spaced (statement_words (Stmt.GetGlobal d k)) ++ 10 ∷ []
 unfolding spaced statement_words
 get_line d k = ap (λ (l : List ℕ). codes "gload r" ++ l) (two_last (decimal d) (codes " ") (decimal k))
 
-pub set_line : (k v : ℕ) → codes "gstore " ++ (decimal k ++ (codes " r" ++ (decimal v ++ 10 ∷ []))) ≡ spaced (statement_words (stmts.SetGlobal k v)) ++ 10 ∷ []
+pub set_line : (k v : ℕ) → codes "gstore " ++ (decimal k ++ (codes " r" ++ (decimal v ++ 10 ∷ []))) ≡ spaced (statement_words (Stmt.SetGlobal k v)) ++ 10 ∷ []
 unfolding spaced statement_words
 set_line k v = ap (λ (l : List ℕ). codes "gstore " ++ l) (two_last (decimal k) (codes " r") (decimal v))
 
-pub int_line : (d n : ℕ) → codes "int r" ++ (decimal d ++ (codes " " ++ (decimal n ++ 10 ∷ []))) ≡ spaced (statement_words (stmts.Int d n)) ++ 10 ∷ []
+pub int_line : (d n : ℕ) → codes "int r" ++ (decimal d ++ (codes " " ++ (decimal n ++ 10 ∷ []))) ≡ spaced (statement_words (Stmt.Int d n)) ++ 10 ∷ []
 unfolding spaced statement_words
 int_line d n = ap (λ (l : List ℕ). codes "int r" ++ l) (two_last (decimal d) (codes " ") (decimal n))
 
-pub move_line : (d s : ℕ) → codes "move r" ++ (decimal d ++ (codes " r" ++ (decimal s ++ 10 ∷ []))) ≡ spaced (statement_words (stmts.Move d s)) ++ 10 ∷ []
+pub move_line : (d s : ℕ) → codes "move r" ++ (decimal d ++ (codes " r" ++ (decimal s ++ 10 ∷ []))) ≡ spaced (statement_words (Stmt.Move d s)) ++ 10 ∷ []
 unfolding spaced statement_words
 move_line d s = ap (λ (l : List ℕ). codes "move r" ++ l) (two_last (decimal d) (codes " r") (decimal s))
 
-pub nil_line : (d : ℕ) → codes "nil r" ++ (decimal d ++ codes "\n") ≡ spaced (statement_words (stmts.Nil d)) ++ 10 ∷ []
+pub nil_line : (d : ℕ) → codes "nil r" ++ (decimal d ++ codes "\n") ≡ spaced (statement_words (Stmt.Nil d)) ++ 10 ∷ []
 unfolding spaced statement_words
 nil_line d = ap (λ (l : List ℕ). codes "nil r" ++ l) (last (decimal d))
 
-pub gc_line : codes "gc\n" ≡ spaced (statement_words stmts.Gc) ++ 10 ∷ []
+pub gc_line : codes "gc\n" ≡ spaced (statement_words Stmt.Gc) ++ 10 ∷ []
 unfolding spaced statement_words
 gc_line = refl
 

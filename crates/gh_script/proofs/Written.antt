@@ -1,12 +1,8 @@
 -- The statements with the body of a `repeat` written out.
 use Rattle.std.proofs.Common.{◌≡◌, ℕ, ◌+◌, ◌-◌, ◌*◌, ◌<◌, ◌≤◌, Bool, false, cond, eqb, List, [], ◌∷◌, ◌++◌, length, take, drop, Some, None, refl, sym, ap, ◌∙◌, arith, inl, inr, min}
-use Rattle.std.specs.List.{repeat}
-use Rattle.std.proofs.lemmas.Bool.{lt-ltb, le-ltb, cases_lt}
-use Rattle.std.proofs.lemmas.List.{take_all, drop_all, length-append, length-take, length-drop}
-use Rattle.std.proofs.Math.Seq.{take-append_seam, drop-append_seam}
-use Rattle.gh_script.specs.declared.goroutine.Repeat.{Repeat}
-use Rattle.gh_script.specs.declared.statement.Stmt.{Stmt}
-use Rattle.gh_script.specs.Draft.{Draft, Open, kept, written_out, with_closed, finished_goroutine, block_ended}
+use Rattle.std.proofs.lemmas.Bool.{lt-ltb, le-ltb}
+use Rattle.std.proofs.lemmas.List.{take_all, length-append, length-take, length-drop}
+use Rattle.gh_script.proofs.Vocabulary.{block_ended, cases_lt, Draft, drop-append_seam, drop_all, finished_goroutine, kept, Open, Repeat, repeat, Stmt, take-append_seam, with_closed, written_out}
 use Rattle.gh_script.proofs.Repeated.{length-repeat}
 
 pub kept_none : (ss : List Stmt) → 200000 < length ss → kept ss ≡ None

@@ -1,16 +1,7 @@
 -- What the lines so far say.
 use Rattle.std.specs.Prelude.{◌≡◌, ℕ, ◌+◌, ◌*◌, ◌≤◌, ◌≢◌, ◌==◌, ◌&&◌, ◌||◌, Bool, true, false, if◌then◌else◌, nat_lt, List, [], ◌∷◌, ◌++◌, length, take, drop, Option, Some, None, unwrap_or, position, sum_by, All, AllPairs}
-use Rattle.std.specs.Option.{option_map, option_and_then, option_to_list}
-use Rattle.std.specs.List.{list_any, repeat}
-use Rattle.std.specs.Str.{bytes_eq}
-use Rattle.gh_base.specs.declared.shape.Shape.{Shape}
-use Rattle.gh_base.specs.Shapes.{FitsShape}
-use Rattle.gh_script.specs.declared.given.Given.{Given}
+use Rattle.gh_script.specs.Vocabulary.{Arena, bytes_eq, FitsShape, Given, Globals, Gogc, list_any, Minheap, option_and_then, option_map, option_to_list, Procs, repeat, Setting, Settings, Shape, Stmt, Workers}
 use Rattle.gh_script.specs.declared.goroutine.Repeat.{Repeat}
-use Rattle.gh_script.specs.declared.key.Setting.{Setting}
-use Rattle.gh_script.specs.declared.key.Setting.TheVariants.{Procs, Workers, Arena, Globals, Gogc, Minheap}
-use Rattle.gh_script.specs.declared.statement.Settings.{Settings}
-use Rattle.gh_script.specs.declared.statement.Stmt.{Stmt}
 use Rattle.gh_script.specs.Limits.{least, most, most_types, most_goroutines, most_statements}
 use Rattle.gh_script.specs.Words.{is_name}
 use Rattle.gh_script.specs.Program.{Goroutine, Program, statements_in, AreStatements, AreNamedApart, IsPacked, IsStatement, IsNamed}

@@ -1,15 +1,7 @@
 -- The form of a script, without the reading of it line by line: settings and types in any order, then goroutines, each
 -- of statements and repeated blocks.
 use Rattle.std.specs.Prelude.{◌≡◌, ℕ, Bool, true, false, not, List, [], ◌∷◌, ◌++◌, map, filter, fold, Option, Some, None, All, ◌≢◌, AllPairs, ◌+◌, ◌<◌, ◌≤◌, length, sum_by}
-use Rattle.std.specs.Option.{option_to_list}
-use Rattle.std.specs.List.{flat_map, repeat}
-use Rattle.std.specs.Str.{is_utf8}
-use Rattle.gh_base.specs.declared.shape.Shape.{Shape}
-use Rattle.gh_script.specs.declared.given.Given.{Given}
-use Rattle.gh_script.specs.declared.key.Setting.{Setting}
-use Rattle.gh_script.specs.declared.key.Key.{Key}
-use Rattle.gh_script.specs.declared.key.Key.TheVariants as keys
-use Rattle.gh_script.specs.declared.statement.Stmt.{Stmt}
+use Rattle.gh_script.specs.Vocabulary.{flat_map, Given, is_utf8, Key, option_to_list, repeat, Setting, Shape, Stmt}
 use Rattle.gh_script.specs.Limits.{most_bytes, most_types, most_goroutines, most_statements, most_repeats}
 use Rattle.gh_script.specs.Program.{Program, Goroutine, AreNamedApart, statements_in}
 use Rattle.gh_script.specs.Text.{Sentence, sentence_of, lines_of, words_of}
@@ -28,8 +20,8 @@ sayings lines = filter (λ line. not (is_skipped line)) (map said_in lines)
 
 -- a setting or a type
 abbrev pub IsHeadKey : Option Key → Type 0
-IsHeadKey (Some (keys.Setting x)) = Unit {0}
-IsHeadKey (Some keys.Type) = Unit {0}
+IsHeadKey (Some (Key.Setting x)) = Unit {0}
+IsHeadKey (Some Key.Type) = Unit {0}
 IsHeadKey (Some key) = ⊥
 IsHeadKey None = ⊥
 
@@ -37,7 +29,7 @@ abbrev pub IsHead : Sentence → Type 0
 IsHead line = IsHeadKey (key_of line.first)
 
 abbrev pub is_type_key : Option Key → Bool
-is_type_key (Some keys.Type) = true
+is_type_key (Some Key.Type) = true
 is_type_key (Some key) = false
 is_type_key None = false
 
@@ -46,7 +38,7 @@ abbrev pub types_in : List Sentence → List Sentence
 types_in lines = filter (λ line. is_type_key (key_of line.first)) lines
 
 abbrev pub given_by_key : Given → Sentence → Option Key → Given
-given_by_key given line (Some (keys.Setting x)) = with_given given x (number_in line.second)
+given_by_key given line (Some (Key.Setting x)) = with_given given x (number_in line.second)
 given_by_key given line (Some key) = given
 given_by_key given line None = given
 
@@ -79,7 +71,7 @@ IsTakenAs draft key line = (key_of line.first ≡ Some key) × (cause_at draft k
 
 -- two lines don't give the same setting
 abbrev pub AreApart : Sentence → Sentence → Type 0
-AreApart one other = (x : Setting) → key_of one.first ≡ Some (keys.Setting x) → key_of other.first ≡ Some (keys.Setting x) → ⊥
+AreApart one other = (x : Setting) → key_of one.first ≡ Some (Key.Setting x) → key_of other.first ≡ Some (Key.Setting x) → ⊥
 
 -- a line is a statement
 abbrev pub IsSaying : List (List ℕ) → Sentence → Type 0
@@ -111,7 +103,7 @@ abbrev pub IsBlock : Given → List (List ℕ) → ℕ → Block → Type 0
 IsBlock given names around Nothing = Unit {0}
 IsBlock given names around (Say before line) = IsBlock given names around before × IsSaying names line × IsTaken (inside given names) line
 IsBlock given names around (Repeated before opens body closes) =
-    IsBlock given names around before × IsTakenAs (inside given names) keys.Repeat opens × (around < most_repeats) × IsBlock given names (around + 1) body × IsTakenAs (inside given names) keys.End closes
+    IsBlock given names around before × IsTakenAs (inside given names) Key.Repeat opens × (around < most_repeats) × IsBlock given names (around + 1) body × IsTakenAs (inside given names) Key.End closes
 
 -- ---- goroutines
 
@@ -125,9 +117,9 @@ abbrev pub routine_lines : Routine → List Sentence
 routine_lines r = r.go ∷ (lines_in r.block ++ r.last ∷ [])
 
 pub record IsRoutine (given : Given) (names : List (List ℕ)) (r : Routine) : Type 0 where
-  pub begins : IsTakenAs blank_draft keys.Go r.go
+  pub begins : IsTakenAs blank_draft Key.Go r.go
   pub block : IsBlock given names 0 r.block
-  pub ends : IsTakenAs (inside given names) keys.End r.last
+  pub ends : IsTakenAs (inside given names) Key.End r.last
 
 -- what it says
 abbrev pub goroutine_by : List (List ℕ) → Routine → Goroutine

@@ -1,11 +1,7 @@
 -- Scripts that are generated from a seed and a size.
 use Rattle.std.specs.Prelude.{◌≡◌, ℕ, zero, suc, ◌*◌, ◌/◌, ◌%◌, ◌<◌, ◌≤◌, ◌==◌, false, if◌then◌else◌, nat_lt, List, [], ◌∷◌, ◌++◌, map, codes, decimal, sum_by, All, length}
-use Rattle.std.specs.List.{flat_map, range_with_len}
+use Rattle.gh_script.specs.Vocabulary.{flat_map, Gc, GetGlobal, Int, Load, Move, New, Nil, range_with_len, SetGlobal, Settings, Shape, Stmt, Store}
 use Rattle.rand_xoshiro.specs.SplitMix64.{mix_u64}
-use Rattle.gh_base.specs.declared.shape.Shape.{Shape}
-use Rattle.gh_script.specs.declared.statement.Settings.{Settings}
-use Rattle.gh_script.specs.declared.statement.Stmt.{Stmt}
-use Rattle.gh_script.specs.declared.statement.Stmt.TheVariants.{New, Load, Store, GetGlobal, SetGlobal, Int, Move, Nil, Gc}
 use Rattle.gh_script.specs.Program.{Goroutine, Program, statements_in, statements_of}
 use Rattle.gh_script.specs.Grammar.{Spells}
 

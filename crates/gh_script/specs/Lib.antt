@@ -10,3 +10,4 @@ pub mod Grammar
 pub mod Outcome
 pub mod Form
 pub mod Generated
+pub mod Vocabulary

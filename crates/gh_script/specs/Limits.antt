@@ -1,8 +1,7 @@
 -- How much a script may have.
 use Rattle.std.specs.Prelude.{ℕ}
+use Rattle.gh_script.specs.Vocabulary.{Setting}
 use Rattle.gh_base.specs.declared.limits.TheConstants.{LEAST_PAGES, MOST_GLOBALS, MOST_GOROUTINES, MOST_PAGES, MOST_PROCS, MOST_STATEMENTS, MOST_WORKERS, REGISTERS}
-use Rattle.gh_script.specs.declared.key.Setting.{Setting}
-use Rattle.gh_script.specs.declared.key.Setting.TheVariants as settings
 
 -- the most bytes of a script
 abbrev pub most_bytes : ℕ
@@ -31,20 +30,20 @@ abbrev pub most_field : ℕ
 most_field = 65535
 
 abbrev pub least : Setting → ℕ
-least settings.Procs = 1
-least settings.Workers = 1
-least settings.Arena = LEAST_PAGES
-least settings.Globals = 1
-least settings.Gogc = 0
-least settings.Minheap = 0
+least Setting.Procs = 1
+least Setting.Workers = 1
+least Setting.Arena = LEAST_PAGES
+least Setting.Globals = 1
+least Setting.Gogc = 0
+least Setting.Minheap = 0
 
 abbrev pub most : Setting → ℕ
-most settings.Procs = MOST_PROCS
-most settings.Workers = MOST_WORKERS
-most settings.Arena = MOST_PAGES
-most settings.Globals = MOST_GLOBALS
-most settings.Gogc = 1000
-most settings.Minheap = 8388608
+most Setting.Procs = MOST_PROCS
+most Setting.Workers = MOST_WORKERS
+most Setting.Arena = MOST_PAGES
+most Setting.Globals = MOST_GLOBALS
+most Setting.Gogc = 1000
+most Setting.Minheap = 8388608
 
 -- how many registers there are
 abbrev pub registers : ℕ

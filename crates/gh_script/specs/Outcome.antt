@@ -1,7 +1,6 @@
 -- What the code answered, beside what the grammar says. Memory may run out at any time.
 use Rattle.std.specs.Prelude.{◌≡◌, ℕ, Result, Ok, Err}
-use Rattle.gh_script.specs.declared.fault.Why.{Why}
-use Rattle.gh_script.specs.declared.fault.ScriptFault.{ScriptFault}
+use Rattle.gh_script.specs.Vocabulary.{ScriptFault, Why}
 use Rattle.gh_script.specs.declared.fault.ParseError.{ParseError}
 use Rattle.gh_script.specs.declared.fault.ParseError.TheVariants.{NoMemory, Script}
 use Rattle.gh_script.specs.Program.{Program}

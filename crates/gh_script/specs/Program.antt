@@ -1,15 +1,9 @@
 -- What a script says, whichever text spells it.
 use Rattle.std.specs.Prelude.{◌≡◌, ℕ, ◌+◌, ◌-◌, ◌/◌, ◌^◌, ◌<◌, ◌≤◌, ◌==◌, true, if◌then◌else◌, List, [], length, slice_get, slice_index_or, Option, None, All, AllPairs, ◌≢◌, sum_by}
-use Rattle.gh_base.specs.Shapes.{bits_at, ShapesFit}
-use Rattle.gh_base.specs.declared.shape.Shape.{Shape}
+use Rattle.gh_script.specs.Vocabulary.{Arena, bits_at, Gc, GetGlobal, Globals, Gogc, Int, Load, Minheap, Move, New, Nil, Procs, SetGlobal, Settings, Shape, ShapesFit, Stmt, Store, Workers}
 use Rattle.gh_base.specs.declared.operation.Op.{Op}
-use Rattle.gh_base.specs.declared.operation.Op.TheVariants as ops
-use Rattle.gh_script.specs.declared.key.Setting.TheVariants.{Procs, Workers, Arena, Globals, Gogc, Minheap}
 use Rattle.gh_script.specs.Limits.{least, most, most_types, most_goroutines, most_statements, most_field, registers}
 use Rattle.gh_script.specs.Words.{is_name}
-use Rattle.gh_script.specs.declared.statement.Settings.{Settings}
-use Rattle.gh_script.specs.declared.statement.Stmt.{Stmt}
-use Rattle.gh_script.specs.declared.statement.Stmt.TheVariants.{New, Load, Store, GetGlobal, SetGlobal, Int, Move, Nil, Gc}
 
 -- a goroutine: its name, and its statements one after the other, repetitions written out
 pub record Goroutine : Type 0 where
@@ -39,15 +33,15 @@ statement_at p g n = if n == 0 then None else slice_get (statements_of p g) (n -
 
 -- a statement as an operation of goroutine g
 abbrev pub statement_as_op : ℕ → Stmt → Op
-statement_as_op g (New d t) = ops.New g d t
-statement_as_op g (Load d b k) = ops.Load g d b k
-statement_as_op g (Store b k v) = ops.Store g b k v
-statement_as_op g (GetGlobal d k) = ops.GetGlobal g d k
-statement_as_op g (SetGlobal k v) = ops.SetGlobal g k v
-statement_as_op g (Int d n) = ops.Int g d n
-statement_as_op g (Move d s) = ops.Move g d s
-statement_as_op g (Nil d) = ops.Nil g d
-statement_as_op g Gc = ops.Gc g
+statement_as_op g (New d t) = Op.New g d t
+statement_as_op g (Load d b k) = Op.Load g d b k
+statement_as_op g (Store b k v) = Op.Store g b k v
+statement_as_op g (GetGlobal d k) = Op.GetGlobal g d k
+statement_as_op g (SetGlobal k v) = Op.SetGlobal g k v
+statement_as_op g (Int d n) = Op.Int g d n
+statement_as_op g (Move d s) = Op.Move g d s
+statement_as_op g (Nil d) = Op.Nil g d
+statement_as_op g Gc = Op.Gc g
 
 -- ---- what each script that is taken keeps
 

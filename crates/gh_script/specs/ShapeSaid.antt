@@ -1,6 +1,6 @@
 -- The code's items of a shape.
 use Rattle.std.specs.Prelude.{◌≡◌, ℕ, ◌≤◌, false, List, ◌∷◌, Option, Some, None}
-use Rattle.gh_class.specs.declared.class.TheConstants.{MOST_TYPE_WORDS}
+use Rattle.gh_script.specs.Vocabulary.{MOST_TYPE_WORDS}
 use Rattle.gh_script.specs.declared.shape_text.Item as code
 use Rattle.gh_script.specs.ShapeText.{Item, fits_behind}
 

@@ -1,8 +1,6 @@
 -- How the shape of a type is spelled.
 use Rattle.std.specs.Prelude.{ℕ, ◌+◌, ◌*◌, ◌/◌, ◌==◌, ◌&&◌, ◌||◌, Bool, true, if◌then◌else◌, not, nat_le, List, [], ◌∷◌, ◌++◌, length, map, take, drop, replicate, Option, Some, is_some, unwrap_or, slice_index}
-use Rattle.std.specs.List.{list_all, list_any, before_first, range_with_len}
-use Rattle.gh_class.specs.declared.class.TheConstants.{MOST_TYPE_WORDS}
-use Rattle.gh_base.specs.declared.shape.Shape.{Shape}
+use Rattle.gh_script.specs.Vocabulary.{before_first, list_all, list_any, MOST_TYPE_WORDS, range_with_len, Shape}
 use Rattle.gh_script.specs.Words.{number_spelled}
 
 -- p, a pointer, or n, a number

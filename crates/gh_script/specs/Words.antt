@@ -1,43 +1,37 @@
 -- How keywords, registers, numbers and names are spelled.
 use Rattle.std.specs.Prelude.{ℕ, ◌+◌, ◌-◌, ◌*◌, ◌^◌, ◌==◌, ◌&&◌, ◌||◌, Bool, false, if◌then◌else◌, nat_lt, nat_le, List, [], ◌∷◌, length, Option, Some, None, codes}
-use Rattle.std.specs.List.{list_all}
-use Rattle.std.specs.Str.{bytes_eq}
-use Rattle.std.specs.Option.{option_map}
-use Rattle.gh_script.specs.declared.key.Setting.{Setting}
-use Rattle.gh_script.specs.declared.key.Setting.TheVariants as settings
-use Rattle.gh_script.specs.declared.key.Key.{Key}
-use Rattle.gh_script.specs.declared.key.Key.TheVariants as keys
+use Rattle.gh_script.specs.Vocabulary.{bytes_eq, Key, list_all, option_map, Setting}
 
 -- the settings by name
 unfoldable pub setting_named : List ℕ → Option Setting
 setting_named word =
-    if bytes_eq word (codes "procs") then Some settings.Procs else
-    (if bytes_eq word (codes "workers") then Some settings.Workers else
-    (if bytes_eq word (codes "arena") then Some settings.Arena else
-    (if bytes_eq word (codes "globals") then Some settings.Globals else
-    (if bytes_eq word (codes "gogc") then Some settings.Gogc else
-    (if bytes_eq word (codes "minheap") then Some settings.Minheap else None)))))
+    if bytes_eq word (codes "procs") then Some Setting.Procs else
+    (if bytes_eq word (codes "workers") then Some Setting.Workers else
+    (if bytes_eq word (codes "arena") then Some Setting.Arena else
+    (if bytes_eq word (codes "globals") then Some Setting.Globals else
+    (if bytes_eq word (codes "gogc") then Some Setting.Gogc else
+    (if bytes_eq word (codes "minheap") then Some Setting.Minheap else None)))))
 
 -- types, and where a goroutine or a repetition begins and ends
 unfoldable pub block_key_of : List ℕ → Option Key
 block_key_of word =
-    if bytes_eq word (codes "type") then Some keys.Type else
-    (if bytes_eq word (codes "go") then Some keys.Go else
-    (if bytes_eq word (codes "repeat") then Some keys.Repeat else
-    (if bytes_eq word (codes "end") then Some keys.End else None)))
+    if bytes_eq word (codes "type") then Some Key.Type else
+    (if bytes_eq word (codes "go") then Some Key.Go else
+    (if bytes_eq word (codes "repeat") then Some Key.Repeat else
+    (if bytes_eq word (codes "end") then Some Key.End else None)))
 
 -- statements
 unfoldable pub statement_key_of : List ℕ → Option Key
 statement_key_of word =
-    if bytes_eq word (codes "new") then Some keys.New else
-    (if bytes_eq word (codes "load") then Some keys.Load else
-    (if bytes_eq word (codes "store") then Some keys.Store else
-    (if bytes_eq word (codes "gload") then Some keys.GetGlobal else
-    (if bytes_eq word (codes "gstore") then Some keys.SetGlobal else
-    (if bytes_eq word (codes "int") then Some keys.Int else
-    (if bytes_eq word (codes "move") then Some keys.Move else
-    (if bytes_eq word (codes "nil") then Some keys.Nil else
-    (if bytes_eq word (codes "gc") then Some keys.Gc else None))))))))
+    if bytes_eq word (codes "new") then Some Key.New else
+    (if bytes_eq word (codes "load") then Some Key.Load else
+    (if bytes_eq word (codes "store") then Some Key.Store else
+    (if bytes_eq word (codes "gload") then Some Key.GetGlobal else
+    (if bytes_eq word (codes "gstore") then Some Key.SetGlobal else
+    (if bytes_eq word (codes "int") then Some Key.Int else
+    (if bytes_eq word (codes "move") then Some Key.Move else
+    (if bytes_eq word (codes "nil") then Some Key.Nil else
+    (if bytes_eq word (codes "gc") then Some Key.Gc else None))))))))
 
 -- the first that is there
 abbrev pub first_some : Option Key → Option Key → Option Key
@@ -46,7 +40,7 @@ first_some (Some key) other = Some key
 
 -- what a line is, as its first word says
 unfoldable pub key_of : List ℕ → Option Key
-key_of word = first_some (option_map keys.Setting (setting_named word)) (first_some (block_key_of word) (statement_key_of word))
+key_of word = first_some (option_map Key.Setting (setting_named word)) (first_some (block_key_of word) (statement_key_of word))
 
 abbrev pub is_digit : ℕ → Bool
 is_digit c = nat_le 48 c && nat_le c 57

@@ -1,6 +1,8 @@
 -- While marking is on the steps of shading are moves that its seat may make. Of the moves it is known what the laws of gh_marks say.
 use Rattle.std.proofs.Common.{◌≡◌, ◌≢◌, ℕ, ◌+◌, ◌/◌, ◌%◌, ◌^◌, ◌<◌, ◌≤◌, Bool, true, false, cond, eqb, Option, Some, None, refl, sym, ap, subst, ◌∙◌, arith, ◌||◌, eqb-true, eq-eqb}
 use Rattle.std.proofs.lemmas.Nat.Bits.{bit_at-lt}
+use Rattle.std.specs.Int.{bit_at}
+use Rattle.gh_shade.proofs.Vocabulary.{asks_at, at_stage, enters, follows_mark, given_at, goes, goes_at, has_place, HasPlace, Held, is_whole, object_of, raised, Shading}
 use Rattle.gh_base.specs.declared.cell.Ask.TheVariants.{Load, Or}
 use Rattle.gh_base.specs.Steps.{cell_of}
 use Rattle.gh_marks.specs.Colours.{Cycle, IsMarked, Shared}
@@ -11,7 +13,14 @@ use Rattle.gh_marks.specs.Moves as move
 use Rattle.gh_marks.specs.Moves.{Keeps, MayEnter, Steps, lands_by, lands_still, moved, set_mark}
 use Rattle.gh_marks.specs.Seats.{Hands, InHand}
 use Rattle.gh_shade.specs.Facts.{Facts, ObjectIsShaded, ShadesByMoves, StageFacts, WaitsForRoom, in_hand, pending_at}
-use Rattle.gh_shade.proofs.Vocabulary.{asks_at, at_stage, bit_at, Cell, Done, Ended, Enter, enters, Entry, follows_mark, given_at, goes, goes_at, has_place, HasPlace, Held, is_whole, LoadPage, Mark, mark_words, object_of, Page, page_noscan, page_of, put, raised, row_bit, RowsAreWritten, SetMark, ShadeStage, Shading, Touch, WaitForRoom, WantsRoom}
+use Rattle.gh_base.specs.declared.cell.Cell.{Cell}
+use Rattle.gh_shade.specs.declared.shade.Shaded.TheVariants.{Done, WantsRoom}
+use Rattle.gh_shade.specs.declared.shade.ShadeStage.TheVariants.{Ended, Enter, LoadPage, SetMark, WaitForRoom}
+use Rattle.gh_base.specs.declared.cell.Cell.TheVariants.{Entry, Mark, Page, Touch}
+use Rattle.gh_base.specs.Rows.{mark_words, row_bit, RowsAreWritten}
+use Rattle.gh_base.specs.Packing.{page_noscan, page_of}
+use Rattle.gh_base.specs.Cells.{put}
+use Rattle.gh_shade.specs.declared.shade.ShadeStage.{ShadeStage}
 use Rattle.gh_shade.proofs.Knowing.{placed}
 
 pub record Known : Type 0 where

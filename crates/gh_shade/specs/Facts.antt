@@ -1,14 +1,10 @@
 -- What is known at each stage of shading while marking is on, and what each step of its own is then. Between its mark and its entry the object is pending in the hands of the seat. Whoever shades finds what it knows left.
 use Rattle.std.specs.Prelude.{◌≡◌, ℕ, ◌<◌, ◌≤◌, true, Option, Some, None}
-use Rattle.gh_base.specs.declared.held.Held.{Held}
-use Rattle.gh_base.specs.declared.pack.TheConstants.{ENTRIES}
+use Rattle.gh_shade.specs.Vocabulary.{Done, Ended, Enter, ENTRIES, Held, LoadPage, SetMark, ShadeStage, WaitForRoom, WantsRoom}
 use Rattle.gh_base.specs.Rows.{mark_words}
 use Rattle.gh_marks.specs.Colours.{Cycle, IsMarked, Shared}
 use Rattle.gh_marks.specs.Routines.{KeepsItsFacts}
 use Rattle.gh_marks.specs.Seats.{Hands, InHand}
-use Rattle.gh_shade.specs.declared.shade.Shaded.TheVariants.{Done, WantsRoom}
-use Rattle.gh_shade.specs.declared.shade.ShadeStage.{ShadeStage}
-use Rattle.gh_shade.specs.declared.shade.ShadeStage.TheVariants.{LoadPage, SetMark, WaitForRoom, Enter, Ended}
 use Rattle.gh_shade.specs.Listing.{gives, goes, listing, object_of, opening, Shading, told_room}
 use Rattle.gh_shade.specs.Sound.{HasPlace}
 

@@ -1,32 +1,9 @@
 -- What a caller can read off a handle is enough for an operation to begin.
 use Rattle.std.proofs.Common.{◌≡◌, ℕ, zero, suc, ◌+◌, ◌<◌, ◌≤◌, Bool, true, false, nat_lt, ◌==◌, ◌&&◌, ◌||◌, not, ◌%◌, List, length, get_or, refl, sym, ◌∙◌, subst, arith}
 use Rattle.std.proofs.lemmas.Bool.{lt-ltb}
-use Rattle.std.proofs.lemmas.Bool.Decides.{nat_tests}
-use Rattle.std.proofs.lemmas.List.Sums.{sum_by_more_le}
-use Rattle.std.proofs.lemmas.Option.{slice_get-get_or}
-use Rattle.gh_base.specs.declared.layout.Layout.{Layout}
+use Rattle.gh_shared.proofs.Vocabulary.{all_ended, arena_of, asked_by, both_true, CountsSo, ended_in, Entry, Fits, goroutine_is_over, goroutine_of, has_left, has_left_at, has_more, HasShapes, in_range, is_leaving, is_of, Layout, left_by, made_by, may_begin_of, may_leave, Mutating, nat_tests, Op, Planned, Processor, processor_kind, ProcessorMay, ProcessorRests, requests_begun, Runs, runs_by, RunsIt, Shape, slice_get-get_or, state_of, sum_by_more_le, Task, wishes_of}
 use Rattle.gh_base.specs.declared.limits.TheConstants.{MOST_GOROUTINES}
-use Rattle.gh_base.specs.declared.machine.Entry.{Entry}
-use Rattle.gh_base.specs.declared.operation.Op.{Op}
-use Rattle.gh_base.specs.declared.shape.Shape.{Shape}
-use Rattle.gh_base.specs.Lists.{state_of}
-use Rattle.gh_mutator.specs.Processing.{Processor}
-use Rattle.gh_mutator.specs.declared.task.Task.{Task}
-use Rattle.gh_mutator.specs.Deeds.{processor_kind}
-use Rattle.gh_mutator.specs.Mutating.{Mutating}
-use Rattle.gh_mutator.specs.Processor.{made_by}
-use Rattle.gh_mutator.specs.Serving.{has_left_at, is_leaving}
 use Rattle.gh_mutator.specs.Sound.{has_names, has_room, most_objects, SoundOp}
-use Rattle.gh_lists.specs.Order.{ended_in, goroutine_is_over, goroutine_of, has_left, in_range}
-use Rattle.gh_lists.specs.Processors.{all_ended, arena_of, asked_by, has_more, is_of, may_leave}
-use Rattle.gh_world.specs.Wishes.{wishes_of}
-use Rattle.gh_world.specs.World.{may_begin_of}
-use Rattle.gh_world.proofs.Due.{both_true}
-use Rattle.gh_actor.specs.declared.actor.HeapActor.TheVariants.{Runs}
-use Rattle.gh_shared.specs.Calls.{Fits, RunsIt}
-use Rattle.gh_actor.specs.Machines.{HasShapes, ProcessorMay}
-use Rattle.gh_actor.specs.Plans.{Planned}
-use Rattle.gh_shared.specs.Shown.{CountsSo, left_by, ProcessorRests, requests_begun, runs_by}
 
 -- ---- truth values
 

@@ -1,29 +1,7 @@
 -- What a handle keeps of the actors that its seat carries: how many there are, and the coordinator's machine.
 use Rattle.std.proofs.Common.{◌≡◌, ◌≢◌, ◌↔◌, ℕ, zero, suc, ◌+◌, ◌%◌, ◌^◌, ◌<◌, ◌≤◌, ◌==◌, Bool, true, false, ◌||◌, nat_lt, if◌then◌else◌, cond, List, [], ◌∷◌, ◌++◌, arith, refl, sym, ap, ◌∙◌, subst, Option, Some, None, ne_eqb, true≢false}
-use Rattle.std.proofs.lemmas.Bool.Decides.{nat_tests}
 use Rattle.std.proofs.lemmas.Bool.{eqb-true, lt-ltb}
-use Rattle.atomic_table.specs.Table.{Me}
-use Rattle.gh_base.specs.declared.layout.Layout.{Layout}
-use Rattle.gh_base.specs.declared.machine.Entry.{Entry}
-use Rattle.gh_base.specs.declared.operation.Op.{Op}
-use Rattle.gh_base.specs.Cells.{seats_of}
-use Rattle.gh_base.specs.Lists.{by, state_of}
-use Rattle.gh_coord.specs.Listing.{Coordinating}
-use Rattle.gh_coord.specs.Stopping.{acks_of}
-use Rattle.gh_world.specs.Below.{spent_at}
-use Rattle.gh_lists.specs.Wants.{total}
-use Rattle.gh_table.specs.declared.plan.View.{View}
-use Rattle.gh_table.specs.Rule.{actor_in, IsAfterOneList}
-use Rattle.gh_table.specs.Runs.{entries_made, machine_after, Ran}
-use Rattle.gh_table.specs.Views.{Carries, has, one_carried}
-use Rattle.gh_lists.specs.declared.handshake.Actor.{Actor}
-use Rattle.gh_lists.specs.declared.handshake.Actor.TheVariants as actor
-use Rattle.gh_actor.specs.declared.actor.HeapActor.{HeapActor}
-use Rattle.gh_actor.specs.declared.actor.HeapActor.TheVariants.{Leads, Marks, Runs}
-use Rattle.gh_shared.specs.Calls.{IsClosedAfter}
-use Rattle.gh_actor.specs.Machines.{asks, begins, goes, is_coordinator, IsCoordinator, machine_actor, opening}
-use Rattle.gh_actor.specs.Plans.{Planned, setting}
-use Rattle.gh_shared.specs.Shown.{as_actor, CarriesSo, count_among, credit_drawn, drawn_beside, first_of, leader_of}
+use Rattle.gh_shared.proofs.Vocabulary.{acks_of, Actor, actor_in, as_actor, asks, begins, by, Carries, CarriesSo, Coordinating, count_among, credit_drawn, drawn_beside, entries_made, Entry, first_of, goes, has, HeapActor, is_coordinator, IsAfterOneList, IsClosedAfter, IsCoordinator, Layout, leader_of, Leads, machine_actor, machine_after, Marks, Me, nat_tests, one_carried, Op, opening, Planned, Ran, Runs, seats_of, setting, spent_at, state_of, total, View}
 use Rattle.gh_shared.proofs.Drawing.{both_words, drawn_all, drawn_both, drawn_on, Joined, none_drawn, one_word, same_state}
 use Rattle.gh_shared.proofs.Ready.{OfItsOwn}
 
@@ -106,7 +84,7 @@ from_last x a z h = grind arith
 
 -- the coordinator's machine, which is this actor
 abbrev pub LedAs : Option Coordinating → Actor → Type 0
-LedAs o s = (c : Coordinating) × (o ≡ Some c) × (actor.Leads c ≡ s)
+LedAs o s = (c : Coordinating) × (o ≡ Some c) × (Actor.Leads c ≡ s)
 
 pub to_led : (o : Option Coordinating) (s : Actor) → as_actor o ≡ Some s → LedAs o s
 to_led None s e = absurd cc
@@ -234,6 +212,6 @@ module _ (law : OfItsOwn) (p : Planned) (v : View Planned Op) (a : ℕ) (x : Hea
         words = after.words;
         entries = λ b lt. after.entries b (it_is_carried b lt);
         seen = after.seen (acks_of p.layout) last_is_carried;
-        coordinator = ap (λ (d : Coordinating). actor.Leads d) same ∙ led_so.2 ∙ same_state law (setting p).kind (acks_of p.layout) v.log after.list (sym (after.entries (acks_of p.layout) last_is_carried));
+        coordinator = ap (λ (d : Coordinating). Actor.Leads d) same ∙ led_so.2 ∙ same_state law (setting p).kind (acks_of p.layout) v.log after.list (sym (after.entries (acks_of p.layout) last_is_carried));
         spent = one_word drawn (credit_drawn x) sum its_own.summed ∙ ap (λ (s : Actor). (sum + spent_at s) % 2 ^ 64) own ∙ ap (λ (k : ℕ). k % 2 ^ 64) (sym (drawn_all p law a v.actors v.log after.list its_own.known it_is_carried (λ b lt. after.entries b (it_is_carried b lt))));
       }

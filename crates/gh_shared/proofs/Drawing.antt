@@ -1,18 +1,8 @@
 -- What the actors that a handle's seat carries have drawn beside its own actor.
 use Rattle.std.proofs.Common.{◌≡◌, ◌≢◌, ℕ, zero, suc, ◌+◌, ◌%◌, ◌^◌, ◌<◌, ◌==◌, Bool, true, false, not, ◌&&◌, ◌||◌, if◌then◌else◌, cond, List, [], ◌∷◌, arith, refl, sym, ap, ◌∙◌, eq-eqb, ne_eqb}
 use Rattle.std.proofs.Math.Nat.{add-mod-mod, mod-add-mod}
-use Rattle.gh_base.specs.declared.machine.Entry.{Entry}
-use Rattle.gh_base.specs.declared.operation.Op.{Op}
-use Rattle.gh_base.specs.Cells.{seats_of}
-use Rattle.gh_base.specs.Lists.{by, Kind, state_of}
-use Rattle.gh_table.specs.declared.plan.View.{View}
-use Rattle.gh_table.specs.Views.{Carries, has}
-use Rattle.gh_lists.specs.declared.handshake.Actor.{Actor}
-use Rattle.gh_world.specs.Below.{spent_at}
-use Rattle.gh_lists.specs.Wants.{total}
+use Rattle.gh_shared.proofs.Vocabulary.{Actor, by, Carries, drawn_beside, Entry, has, Kind, Op, Planned, seats_of, setting, spent_at, state_of, total, View}
 use Rattle.gh_lists.specs.Sums.{total_at, total_none}
-use Rattle.gh_actor.specs.Plans.{Planned, setting}
-use Rattle.gh_shared.specs.Shown.{drawn_beside}
 use Rattle.gh_shared.proofs.Ready.{OfItsOwn}
 
 -- ---- sums

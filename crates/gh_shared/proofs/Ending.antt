@@ -1,26 +1,9 @@
 -- A worker and the coordinator begin no operation, and run until they are done.
 use Rattle.std.proofs.Common.{◌≡◌, ℕ, ◌+◌, Bool, true, false, List, [], ◌∷◌, ◌++◌, refl, sym, ap, ◌∙◌, subst, None, arith}
-use Rattle.atomic_table.specs.Table.{Me}
-use Rattle.gh_base.specs.declared.layout.Layout.{Layout}
-use Rattle.gh_base.specs.declared.machine.Entry.{Entry}
-use Rattle.gh_base.specs.declared.operation.Op.{Op}
-use Rattle.gh_base.specs.Lists.{by}
-use Rattle.gh_coord.specs.GoingOn.{GoesOnUntilDone, HasNext}
+use Rattle.gh_shared.proofs.Vocabulary.{asked_by, asks, by, Coordinating, CoordinatorGoesOn, ended_at, ended_in, entries_made, Entry, goes, GoesOnUntilDone, has_left, HasNext, HeapActor, is_busy, IsKeptByHandle, IsOther, Layout, Leads, machine_after, Marks, Me, Mutating, Op, Planned, Ran, requests_begun, Runs, View}
 use Rattle.gh_coord.specs.Listing as coord
-use Rattle.gh_coord.specs.Listing.{Coordinating}
-use Rattle.gh_mutator.specs.Mutating.{Mutating}
 use Rattle.gh_worker.specs.Listing as worker
 use Rattle.gh_worker.specs.Listing.{Working}
-use Rattle.gh_table.specs.declared.plan.View.{View}
-use Rattle.gh_table.specs.Runs.{entries_made, machine_after, Ran}
-use Rattle.gh_lists.specs.Order.{ended_in, has_left}
-use Rattle.gh_lists.specs.Processors.{asked_by}
-use Rattle.gh_actor.specs.declared.actor.HeapActor.{HeapActor}
-use Rattle.gh_actor.specs.declared.actor.HeapActor.TheVariants.{Leads, Marks, Runs}
-use Rattle.gh_shared.specs.Handles.{ended_at}
-use Rattle.gh_actor.specs.Machines.{asks, goes, is_busy, IsOther}
-use Rattle.gh_actor.specs.Plans.{Planned}
-use Rattle.gh_shared.specs.Shown.{CoordinatorGoesOn, IsKeptByHandle, requests_begun}
 use Rattle.gh_shared.proofs.Keeping.{by_made, same_then}
 
 -- ---- the entries

@@ -1,34 +1,10 @@
 -- A call that answers a fault leaves all as it was.
 use Rattle.std.proofs.Common.{◌≡◌, ◌≢◌, ℕ, zero, suc, ◌<◌, ◌≤◌, ◌==◌, true, false, cond, All, List, [], ◌∷◌, ◌++◌, length, arith, refl, sym, ap, ◌∙◌, subst, Option, Some, eq-eqb, ne_eqb}
-use Rattle.std.proofs.lemmas.List.Elements.{All-cons, All-nil}
-use Rattle.gh_base.specs.declared.layout.Layout.{Layout}
-use Rattle.gh_base.specs.declared.machine.Entry.{Entry}
-use Rattle.gh_base.specs.declared.operation.Op.{Op}
-use Rattle.gh_base.specs.declared.value.Answer.{Answer}
-use Rattle.gh_base.specs.declared.value.Answer.TheVariants as answer
-use Rattle.gh_base.specs.declared.value.Fault.{Fault}
-use Rattle.gh_base.specs.Lists.{by}
-use Rattle.gh_base.specs.Routines.{told}
-use Rattle.gh_mutator.specs.declared.task.Task.{Task}
+use Rattle.gh_shared.proofs.Vocabulary.{Actor, All-cons, All-nil, Answer, asks, at_task, begins, begun_next, by, ended_at, ended_of, ends_with_answer, entries_made, Entry, entry, Fault, FaultChangesNothing, FaultsChangeNothing, Gave, gives, goes, Handle, HeapActor, is_busy_at, is_leaving, is_load, IsProcessor, Layout, layout_of, Leads, machine_actor, machine_after, machine_of, Marks, Mutating, number_of, Op, Operated, own_of, ProcessorRests, rested, room_at, Runs, Task, told, view_of}
 use Rattle.gh_mutator.specs.declared.task.Task.TheVariants.{Idle}
-use Rattle.gh_mutator.specs.Faults.{FaultChangesNothing, FaultsChangeNothing, is_load, rested}
-use Rattle.gh_mutator.specs.Listing.{is_busy_at}
 use Rattle.gh_mutator.specs.Mutating as mutating
-use Rattle.gh_mutator.specs.Mutating.{Mutating}
-use Rattle.gh_mutator.specs.Processor.{at_task}
-use Rattle.gh_mutator.specs.Serving.{is_leaving}
-use Rattle.gh_table.specs.Runs.{begun_next, entries_made, Gave, machine_after}
-use Rattle.gh_table.specs.Views.{entry}
-use Rattle.gh_lists.specs.declared.handshake.Actor.TheVariants as actor
-use Rattle.gh_shared.specs.declared.handle.Handle.{Handle}
 use Rattle.gh_shared.specs.declared.heap.Heap.{Heap}
-use Rattle.gh_actor.specs.declared.actor.HeapActor.{HeapActor}
-use Rattle.gh_actor.specs.declared.actor.HeapActor.TheVariants.{Leads, Marks, Runs}
-use Rattle.gh_shared.specs.Calls.{Operated}
 use Rattle.gh_shared.specs.Faults.{FaultLeavesAll, LeavesAll}
-use Rattle.gh_shared.specs.Handles.{ended_at, ended_of, layout_of, machine_of, number_of, own_of, room_at, view_of}
-use Rattle.gh_actor.specs.Machines.{asks, begins, ends_with_answer, gives, goes, IsProcessor, machine_actor}
-use Rattle.gh_shared.specs.Shown.{ProcessorRests}
 use Rattle.gh_shared.proofs.Keeping.{by_made, runs_after}
 
 -- ---- what its steps found, counted from 0
@@ -91,20 +67,20 @@ idle_is : (t : Task) → is_busy_at t ≡ false → is_leaving t ≡ false → t
 idle_is t idle stays = grind arith
 
 -- a fault by the last of these steps
-faulted : (l : Layout) (m : Mutating) (o : Op) (n : ℕ) (ns : List ℕ) (cause : Fault) → FaultsChangeNothing → Gave (goes l) (gives l) (Runs (mutating.begins m o)) (n ∷ ns) (Some (answer.Fault cause)) → FaultChangesNothing l m o (found_of (n ∷ ns)) (length ns) cause
+faulted : (l : Layout) (m : Mutating) (o : Op) (n : ℕ) (ns : List ℕ) (cause : Fault) → FaultsChangeNothing → Gave (goes l) (gives l) (Runs (mutating.begins m o)) (n ∷ ns) (Some (Answer.Fault cause)) → FaultChangesNothing l m o (found_of (n ∷ ns)) (length ns) cause
 faulted l m o n ns cause law gave =
     let b = mutating.begins m o in
     let found : ℕ → ℕ = found_of (n ∷ ns) in
-    let by_last : mutating.gives l (machine_after (mutating.goes l) (mutating.begins m o) ns) n ≡ Some (answer.Fault cause) = answered_is (mutating.gives l (machine_after (mutating.goes l) b ns) n) (answer.Fault cause) (subst (λ (x : HeapActor). gives l x n ≡ Some (Some (answer.Fault cause))) (runs_after l b ns) gave) in
+    let by_last : mutating.gives l (machine_after (mutating.goes l) (mutating.begins m o) ns) n ≡ Some (Answer.Fault cause) = answered_is (mutating.gives l (machine_after (mutating.goes l) b ns) n) (Answer.Fault cause) (subst (λ (x : HeapActor). gives l x n ≡ Some (Some (Answer.Fault cause))) (runs_after l b ns) gave) in
     let behind : told (mutating.listing l) (mutating.begins m o) found (length ns) ≡ machine_after (mutating.goes l) (mutating.begins m o) ns = told_so l b ns found (found_earlier n ns) in
     law l m o found (length ns) cause (ap (λ (x : Mutating). mutating.gives l x (found (length ns))) behind ∙ ap (mutating.gives l (machine_after (mutating.goes l) b ns)) (found_here n ns) ∙ by_last)
 
 -- the processor behind it
-rests_so : (l : Layout) (m : Mutating) (o : Op) (n : ℕ) (ns : List ℕ) (cause : Fault) → FaultChangesNothing l m o (found_of (n ∷ ns)) (length ns) cause → machine_after (goes l) (begins (Runs m) o) (n ∷ ns) ≡ Runs (rested m m.processor (answer.Fault cause))
+rests_so : (l : Layout) (m : Mutating) (o : Op) (n : ℕ) (ns : List ℕ) (cause : Fault) → FaultChangesNothing l m o (found_of (n ∷ ns)) (length ns) cause → machine_after (goes l) (begins (Runs m) o) (n ∷ ns) ≡ Runs (rested m m.processor (Answer.Fault cause))
 rests_so l m o n ns cause c = runs_after l (mutating.begins m o) (n ∷ ns) ∙ ap Runs (sym (told_all l (mutating.begins m o) (n ∷ ns)) ∙ c.stays)
 
-stays_idle : (m : Mutating) (cause : Fault) → m.processor.task ≡ Idle → machine_actor (Runs (rested m m.processor (answer.Fault cause))) ≡ machine_actor (Runs m)
-stays_idle m cause idle = ap (λ (t : Task). actor.Runs (at_task m.processor t)) (sym idle)
+stays_idle : (m : Mutating) (cause : Fault) → m.processor.task ≡ Idle → machine_actor (Runs (rested m m.processor (Answer.Fault cause))) ≡ machine_actor (Runs m)
+stays_idle m cause idle = ap (λ (t : Task). Actor.Runs (at_task m.processor t)) (sym idle)
 
 -- ---- the call
 
@@ -119,7 +95,7 @@ module _ (heap : Heap) (o : Op) (h h' : Handle) (given : Answer) (founds : List 
       ∙ ap (by (number_of h)) did.ran.log
       ∙ by_made (layout_of h) (number_of h) (Some o) (begins (machine_of h) o) founds (view_of h).log
 
-  leaves_by : (x : HeapActor) (all : List ℕ) → machine_of h ≡ x → IsProcessor x → own_of h' ≡ entries_made (asks (layout_of h)) (goes (layout_of h)) (number_of h) (Some o) (begins x o) all ++ own_of h → machine_of h' ≡ machine_after (goes (layout_of h)) (begins x o) all → (cause : Fault) → Gave (goes (layout_of h)) (gives (layout_of h)) (begins x o) all (Some (answer.Fault cause)) → LeavesAll h h'
+  leaves_by : (x : HeapActor) (all : List ℕ) → machine_of h ≡ x → IsProcessor x → own_of h' ≡ entries_made (asks (layout_of h)) (goes (layout_of h)) (number_of h) (Some o) (begins x o) all ++ own_of h → machine_of h' ≡ machine_after (goes (layout_of h)) (begins x o) all → (cause : Fault) → Gave (goes (layout_of h)) (gives (layout_of h)) (begins x o) all (Some (Answer.Fault cause)) → LeavesAll h h'
   leaves_by (Marks w) all at is own after cause gave = absurd is
   leaves_by (Leads c) all at is own after cause gave = absurd is
   leaves_by (Runs m) [] at is own after cause gave = absurd gave
@@ -128,7 +104,7 @@ module _ (heap : Heap) (o : Op) (h h' : Handle) (given : Answer) (founds : List 
       let at_rest = rests m at in
       let going_on : ended_at (Runs m) (own_of h) ≡ false = ap (λ (x : HeapActor). ended_at x (own_of h)) (sym at) ∙ going in
       let idle : m.processor.task ≡ Idle = idle_is m.processor.task at_rest.idle (at_rest.leaves ∙ going_on) in
-      let ends : machine_of h' ≡ Runs (rested m m.processor (answer.Fault cause)) = after ∙ rests_so (layout_of h) m o n ns cause c in
+      let ends : machine_of h' ≡ Runs (rested m m.processor (Answer.Fault cause)) = after ∙ rests_so (layout_of h) m o n ns cause c in
       record {
         added = entries_made (asks (layout_of h)) (goes (layout_of h)) (number_of h) (Some o) (Runs (mutating.begins m o)) (n ∷ ns);
         own = own;

@@ -1,28 +1,10 @@
 -- Actors before their first steps.
-use Rattle.std.proofs.lemmas.Bool.Decides.{nat_tests}
 use Rattle.std.proofs.Common.{◌≡◌, ◌∙◌, arith, ℕ, Bool, true, false, sym, refl, subst, nat_lt, if◌then◌else◌, List, []}
+use Rattle.gh_shared.proofs.Vocabulary.{acks_of, actor_in, by, Carries, Coordinating, CoordinatorGoesOn, CountsFirst, HasNext, HasShapes, HeapActor, IsKeptByHandle, LaysOut, Leads, machine_actor, made_by, Marks, most_cycles, Mutating, nat_tests, one_carried, Op, opening, opening_processor, Planned, ProcessorRests, RestsIfProcessor, Runs, setting, View}
 use Rattle.gh_base.specs.Reading.{read_replicate}
-use Rattle.gh_base.specs.declared.operation.Op.{Op}
 use Rattle.gh_coord.specs.Listing as coord
-use Rattle.gh_coord.specs.Listing.{Coordinating}
-use Rattle.gh_coord.specs.Stopping.{acks_of}
-use Rattle.gh_coord.specs.GoingOn.{HasNext}
 use Rattle.gh_mutator.specs.Mutating as mutating
-use Rattle.gh_mutator.specs.Mutating.{Mutating}
-use Rattle.gh_mutator.specs.Processor.{opening_processor, made_by}
-use Rattle.gh_table.specs.declared.plan.View.{View}
-use Rattle.gh_table.specs.Rule.{actor_in}
-use Rattle.gh_table.specs.Views.{Carries, one_carried}
-use Rattle.gh_actor.specs.declared.actor.HeapActor.{HeapActor}
-use Rattle.gh_actor.specs.declared.actor.HeapActor.TheVariants.{Leads, Marks, Runs}
-use Rattle.gh_actor.specs.Machines.{HasShapes, machine_actor, opening}
-use Rattle.gh_base.specs.Lists.{by}
 use Rattle.gh_worker.specs.Listing as worker
-use Rattle.gh_world.specs.Wishes.{most_cycles}
-use Rattle.gh_world.specs.World.{LaysOut}
-use Rattle.gh_actor.specs.Counting.{CountsFirst}
-use Rattle.gh_actor.specs.Plans.{Planned, setting}
-use Rattle.gh_shared.specs.Shown.{CoordinatorGoesOn, IsKeptByHandle, ProcessorRests, RestsIfProcessor}
 
 -- what a hand is made of
 pub record IsTied (a : ℕ) (m : HeapActor) (v : View Planned Op) : Type 0 where
@@ -36,9 +18,6 @@ first_leader p a = coord.opening p.layout a p.script.settings.gogc p.script.sett
 module _ (p : Planned) (a : ℕ) where
   abbrev first_of : Bool → Bool → HeapActor
   first_of b c = if b then Runs (mutating.opening a p.script.shapes) else if c then Marks (worker.opening a) else Leads (first_leader p a)
-
-  pub opens : IsTied a (opening p a) (one_carried p a)
-  opens = grind arith
 
 pub opens_so : (p : Planned) (a : ℕ) (m : HeapActor) (v : View Planned Op) → v ≡ one_carried p a → m ≡ opening p a → IsTied a m v
 opens_so p a m v view machine = grind arith

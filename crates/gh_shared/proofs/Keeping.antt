@@ -1,40 +1,9 @@
 -- What a handle keeps once an operation has run.
 use Rattle.std.proofs.Common.{◌≡◌, ℕ, ◌+◌, ◌-◌, ◌<◌, ◌≤◌, Bool, true, false, ◌==◌, ◌||◌, if◌then◌else◌, List, [], ◌∷◌, ◌++◌, length, length-set, get_or, set, eq-eqb, refl, sym, ap, ◌∙◌, subst, Option, Some, arith}
-use Rattle.std.proofs.lemmas.Bool.Decides.{nat_tests}
-use Rattle.std.proofs.lemmas.List.Sums.{sum_by-set}
-use Rattle.std.proofs.lemmas.Option.{slice_get-get_or}
-use Rattle.atomic_table.specs.Table.{Me}
-use Rattle.gh_base.specs.declared.layout.Layout.{Layout}
-use Rattle.gh_base.specs.declared.machine.Entry.{Entry}
-use Rattle.gh_base.specs.declared.operation.Op.{Op}
-use Rattle.gh_base.specs.declared.operation.Op.TheVariants as op
-use Rattle.gh_base.specs.declared.shape.Shape.{Shape}
-use Rattle.gh_base.specs.declared.value.Answer.{Answer}
-use Rattle.gh_base.specs.Lists.{by}
-use Rattle.gh_mutator.specs.Processing.{Processor}
-use Rattle.gh_mutator.specs.declared.task.Task.{Task}
-use Rattle.gh_mutator.specs.Listing.{begins_at, is_busy_at, takes_at}
+use Rattle.gh_shared.proofs.Vocabulary.{Answer, asked_by, asks, asks_collector, asks_for_cycle, begins, begins_at, begun_next, by, CountsSo, ended_in, ends, entries_made, Entry, entry, Fits, Gave, gives, goes, gone_after, goroutine_of, has_left, HasOneAt, HasShapes, HeapActor, is_busy, is_busy_at, is_leaving, IsKeptByHandle, Layout, Leads, leaves, leaves_is, left_after, left_by, machine_after, made_by, making, MayCount, Me, Mutating, nat_tests, Op, over_after, Planned, Processor, ProcessorRests, Ran, requests_begun, Runs, runs_by, RunsIt, Shape, slice_get-get_or, sum_by-set, takes_at, Task, View, wishes_of}
 use Rattle.gh_mutator.specs.Mutating as mutating
-use Rattle.gh_mutator.specs.Mutating.{Mutating}
-use Rattle.gh_mutator.specs.Processor.{made_by}
-use Rattle.gh_mutator.specs.Serving.{is_leaving}
-use Rattle.gh_table.specs.declared.plan.View.{View}
-use Rattle.gh_table.specs.Runs.{begun_next, entries_made, Gave, machine_after, Ran}
-use Rattle.gh_table.specs.Views.{entry}
-use Rattle.gh_lists.specs.Order.{ended_in, ends, goroutine_of, has_left, leaves}
-use Rattle.gh_lists.specs.Processors.{asked_by, asks_collector}
-use Rattle.gh_world.specs.Wishes.{wishes_of}
-use Rattle.gh_world.specs.World.{making}
-use Rattle.gh_world.proofs.Due.{leaves_is}
 use Rattle.gh_world.proofs.Runners.{each_set}
 use Rattle.gh_world.proofs.StepFacts.{begin_facts, step_facts}
-use Rattle.gh_actor.specs.declared.actor.HeapActor.{HeapActor}
-use Rattle.gh_actor.specs.declared.actor.HeapActor.TheVariants.{Leads, Runs}
-use Rattle.gh_shared.specs.Calls.{Fits, RunsIt}
-use Rattle.gh_actor.specs.Counting.{gone_after, HasOneAt, left_after, MayCount, over_after}
-use Rattle.gh_actor.specs.Machines.{asks, begins, gives, goes, HasShapes, is_busy}
-use Rattle.gh_actor.specs.Plans.{Planned}
-use Rattle.gh_shared.specs.Shown.{asks_for_cycle, CountsSo, IsKeptByHandle, left_by, ProcessorRests, requests_begun, runs_by}
 use Rattle.gh_shared.proofs.Allowed.{below, it_runs, left_is}
 
 -- ---- the entries
@@ -124,18 +93,18 @@ module _ (p : Planned) (own own' : List (Entry Op)) (procs : ℕ) (left : List �
   }
 
   pub counts_then : (o : Op) → MayCount left over o → OneMore o own own' → CountsSo p own' procs (left_after left o) (over_after over o) (gone_after gone o)
-  counts_then (op.New g d t) may one = asks_then g may one.asked one.all one.ended one.left
-  counts_then (op.Gc g) may one = asks_then g may one.asked one.all one.ended one.left
-  counts_then (op.End g) may one = ends_then g may one.asked one.all one.ended one.left
-  counts_then op.Leave may one = same_then one.asked one.all one.ended true (sym one.left)
-  counts_then (op.Load g d b k) may one = same_then one.asked one.all one.ended gone (counts.has_gone ∙ sym one.left)
-  counts_then (op.Store g b k v) may one = same_then one.asked one.all one.ended gone (counts.has_gone ∙ sym one.left)
-  counts_then (op.GetGlobal g d k) may one = same_then one.asked one.all one.ended gone (counts.has_gone ∙ sym one.left)
-  counts_then (op.SetGlobal g k v) may one = same_then one.asked one.all one.ended gone (counts.has_gone ∙ sym one.left)
-  counts_then (op.Int g d n) may one = same_then one.asked one.all one.ended gone (counts.has_gone ∙ sym one.left)
-  counts_then (op.Move g d s) may one = same_then one.asked one.all one.ended gone (counts.has_gone ∙ sym one.left)
-  counts_then (op.Nil g d) may one = same_then one.asked one.all one.ended gone (counts.has_gone ∙ sym one.left)
-  counts_then op.Poll may one = same_then one.asked one.all one.ended gone (counts.has_gone ∙ sym one.left)
+  counts_then (Op.New g d t) may one = asks_then g may one.asked one.all one.ended one.left
+  counts_then (Op.Gc g) may one = asks_then g may one.asked one.all one.ended one.left
+  counts_then (Op.End g) may one = ends_then g may one.asked one.all one.ended one.left
+  counts_then Op.Leave may one = same_then one.asked one.all one.ended true (sym one.left)
+  counts_then (Op.Load g d b k) may one = same_then one.asked one.all one.ended gone (counts.has_gone ∙ sym one.left)
+  counts_then (Op.Store g b k v) may one = same_then one.asked one.all one.ended gone (counts.has_gone ∙ sym one.left)
+  counts_then (Op.GetGlobal g d k) may one = same_then one.asked one.all one.ended gone (counts.has_gone ∙ sym one.left)
+  counts_then (Op.SetGlobal g k v) may one = same_then one.asked one.all one.ended gone (counts.has_gone ∙ sym one.left)
+  counts_then (Op.Int g d n) may one = same_then one.asked one.all one.ended gone (counts.has_gone ∙ sym one.left)
+  counts_then (Op.Move g d s) may one = same_then one.asked one.all one.ended gone (counts.has_gone ∙ sym one.left)
+  counts_then (Op.Nil g d) may one = same_then one.asked one.all one.ended gone (counts.has_gone ∙ sym one.left)
+  counts_then Op.Poll may one = same_then one.asked one.all one.ended gone (counts.has_gone ∙ sym one.left)
 
 -- ---- the processor
 

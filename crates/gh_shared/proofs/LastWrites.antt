@@ -1,16 +1,8 @@
 -- An entry finds what the last entry left that wrote its cell.
 use Rattle.std.proofs.Common.{◌≡◌, Bool, true, false, not, ◌&&◌, cond, List, [], ◌∷◌, ◌++◌, refl, sym, ap, ◌∙◌, arith}
 use Rattle.std.proofs.lemmas.List.{append-nil}
-use Rattle.std.proofs.lemmas.List.Elements.{All-head, All-tail}
-use Rattle.gh_base.specs.declared.cell.Ask.{Ask}
-use Rattle.gh_base.specs.declared.cell.Cell.{Cell}
-use Rattle.gh_base.specs.declared.machine.Entry.{Entry}
-use Rattle.gh_base.specs.declared.operation.Op.{Op}
-use Rattle.gh_base.specs.Cells.{same_cell, Words}
-use Rattle.gh_base.specs.Lists.{Legal, Setting, words_after}
+use Rattle.gh_shared.proofs.Vocabulary.{All-head, All-tail, Ask, Cell, Entry, is_load, Legal, Op, Planned, same_cell, Setting, setting, Words, words_after}
 use Rattle.gh_base.specs.Steps.{cell_of, ChangesOneCell, effect, left}
-use Rattle.gh_mutator.specs.Faults.{is_load}
-use Rattle.gh_actor.specs.Plans.{Planned, setting}
 use Rattle.gh_shared.specs.LastWrites.{NoneWrites, ReadsSeeWrites, writes}
 
 and_true : (b c : Bool) → (b && not c) ≡ true → b ≡ true

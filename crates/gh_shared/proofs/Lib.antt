@@ -11,3 +11,4 @@ pub mod Loading
 pub mod Midway
 pub mod Ready
 pub mod Rooms
+pub mod Vocabulary

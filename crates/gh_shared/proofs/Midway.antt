@@ -1,27 +1,9 @@
 -- An operation whose steps are made while the machine of its processor stays behind: after each of them it stands where the machine would.
 use Rattle.std.proofs.Common.{◌≡◌, ℕ, suc, ◌≤◌, true, false, List, [], ◌∷◌, length, refl, sym, ap, ◌∙◌, subst, Option, Some, None, eq-eqb}
-use Rattle.atomic_table.specs.Table.{Me}
-use Rattle.gh_base.specs.declared.cell.Ask.{Ask}
-use Rattle.gh_base.specs.declared.layout.Layout.{Layout}
-use Rattle.gh_base.specs.declared.machine.Entry.{Entry}
-use Rattle.gh_base.specs.declared.operation.Op.{Op}
-use Rattle.gh_base.specs.declared.value.Answer.{Answer}
-use Rattle.gh_base.specs.Lists.{by, started, state_of}
+use Rattle.gh_shared.proofs.Vocabulary.{Actor, actor_in, Answer, Ask, asks, BeganAsEach, begun_next, by, Carries, ends_with_answer, Entry, entry, gives, goes, has, HasShapes, HeapActor, Layout, machine_actor, machine_after, may_begin_of, MayAsk, Me, Mutating, Op, Planned, ProcessorMay, Ran, RanAtOnce, Runs, SawLegalList, setting, started, state_of, Tells, View}
 use Rattle.gh_mutator.specs.Mutating as mutating
-use Rattle.gh_mutator.specs.Mutating.{Mutating}
-use Rattle.gh_table.specs.declared.plan.View.{View}
-use Rattle.gh_table.specs.Rule.{actor_in, MayAsk, Tells}
-use Rattle.gh_table.specs.Runs.{begun_next, machine_after, Ran, SawLegalList}
-use Rattle.gh_table.specs.Views.{BeganAsEach, Carries, entry, has}
 use Rattle.gh_table.proofs.Running.{saw_before, saw_legal_list, saw_since}
-use Rattle.gh_lists.specs.declared.handshake.Actor.{Actor}
-use Rattle.gh_world.specs.World.{may_begin_of}
-use Rattle.gh_actor.specs.declared.actor.HeapActor.{HeapActor}
-use Rattle.gh_actor.specs.declared.actor.HeapActor.TheVariants.{Runs}
-use Rattle.gh_shared.specs.AtOnce.{RanAtOnce}
-use Rattle.gh_actor.specs.Machines.{asks, ends_with_answer, gives, goes, HasShapes, machine_actor, ProcessorMay}
 use Rattle.gh_actor.specs.MachinesAct.{asks_is, begins_is, busy_is, shapes_begun, takes_is}
-use Rattle.gh_actor.specs.Plans.{Planned, setting}
 
 abbrev pub Seen : Type 0
 Seen = Me (Unit {0}) (View Planned Op)

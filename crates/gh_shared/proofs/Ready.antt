@@ -1,38 +1,12 @@
 -- A handle of a processor may begin what its caller may ask for, and keeps what it shows.
 use Rattle.std.proofs.Common.{◌≡◌, ℕ, zero, suc, ◌≤◌, ◌-◌, Bool, true, false, not, ◌&&◌, ◌||◌, if◌then◌else◌, arith, List, [], ◌∷◌, refl, sym, ap, ◌∙◌, subst, Option, Some, None}
-use Rattle.atomic_table.specs.Table.{Me}
-use Rattle.gh_base.specs.declared.layout.Layout.{Layout}
-use Rattle.gh_base.specs.declared.machine.Entry.{Entry}
-use Rattle.gh_base.specs.declared.operation.Op.{Op}
-use Rattle.gh_base.specs.declared.value.Answer.{Answer}
-use Rattle.gh_base.specs.declared.operation.Op.TheVariants as op
-use Rattle.gh_base.specs.Routines.{EndsWithin, told}
+use Rattle.gh_shared.proofs.Vocabulary.{Acting, Actor, Answer, asks, asks_collector, begins, by, ended_at, ended_of, ends, ends_with_answer, EndsWithin, Entry, Fits, Gave, gives, goes, gone_after, goroutine_of, Handle, has_left, HasShapes, HeapActor, is_busy, IsKeptByHandle, IsProcessor, Kind, Layout, layout_of, Leads, leaves, left_after, left_by, machine_actor, machine_after, machine_of, MachineMayBegin, Marks, may_begin_of, MayCount, Me, Mutating, number_of, Op, over_after, own_of, Planned, processor_kind, Ran, room_at, Runs, runs_by, RunsIt, setting, ShowsAfter, state_of, told, View, view_of}
 use Rattle.gh_mutator.specs.Ending.{may_wait, most_steps, OperationsEnd}
 use Rattle.gh_poll.specs.Local.{marking_at}
 use Rattle.gh_mutator.specs.PollRoom.{HasRoomToStore, PollsMakeRoom}
-use Rattle.gh_base.specs.Lists.{by, Kind, state_of}
-use Rattle.gh_mutator.specs.Deeds.{processor_kind}
 use Rattle.gh_mutator.specs.Mutating as mutating
-use Rattle.gh_mutator.specs.Mutating.{Mutating}
-use Rattle.gh_table.specs.declared.plan.View.{View}
-use Rattle.gh_table.specs.Runs.{Gave, machine_after, Ran}
-use Rattle.gh_lists.specs.declared.handshake.Actor.{Actor}
-use Rattle.gh_lists.specs.declared.handshake.Actor.TheVariants as actor
-use Rattle.gh_lists.specs.Order.{ends, goroutine_of, has_left, leaves}
-use Rattle.gh_lists.specs.Processors.{asks_collector}
-use Rattle.gh_world.specs.World.{may_begin_of}
 use Rattle.gh_world.proofs.Resting.{is_processor}
-use Rattle.gh_actor.specs.declared.actor.HeapActor.{HeapActor}
-use Rattle.gh_actor.specs.declared.actor.HeapActor.TheVariants.{Leads, Marks, Runs}
 use Rattle.gh_actor.specs.Acting as acting
-use Rattle.gh_actor.specs.Acting.{Acting}
-use Rattle.gh_shared.specs.Calls.{Fits, RunsIt, ShowsAfter}
-use Rattle.gh_shared.specs.declared.handle.Handle.{Handle}
-use Rattle.gh_actor.specs.Counting.{gone_after, left_after, MayCount, over_after}
-use Rattle.gh_shared.specs.Handles.{ended_at, ended_of, layout_of, machine_of, number_of, own_of, room_at, view_of}
-use Rattle.gh_actor.specs.Machines.{asks, begins, ends_with_answer, gives, goes, HasShapes, is_busy, IsProcessor, machine_actor, MachineMayBegin}
-use Rattle.gh_actor.specs.Plans.{Planned, setting}
-use Rattle.gh_shared.specs.Shown.{IsKeptByHandle, left_by, runs_by}
 use Rattle.gh_shared.proofs.Allowed.{allowed}
 use Rattle.gh_shared.proofs.Rooms.{room_so}
 use Rattle.gh_shared.proofs.Keeping.{kept_then, may_count, OneMore, ran_more, runs_after}
@@ -52,7 +26,7 @@ ready p a (Leads c) log procs left over gone o law kept belongs state is going r
 ready p a (Runs m) log procs left over gone o law kept belongs state is going runs fits =
     let own = by a log in
     let rests = kept.rests m refl in
-    let whole : actor.Runs m.processor ≡ actor.Runs (state_of (processor_kind p.script.shapes p.layout) a own) = state ∙ law (setting p).kind a log ∙ is_processor p.script p.layout a rests.seat own in
+    let whole : Actor.Runs m.processor ≡ Actor.Runs (state_of (processor_kind p.script.shapes p.layout) a own) = state ∙ law (setting p).kind a log ∙ is_processor p.script p.layout a rests.seat own in
     let same : m.processor ≡ state_of (processor_kind p.script.shapes p.layout) a own = cc in
     let it = allowed p a m own procs left over gone kept.counts rests belongs o going same (run_it o runs) fits in
     record { may = it.may; allowed = it.allowed; counts = may_count p a m own procs left over gone kept.counts rests belongs o (run_it o runs) fits }
@@ -146,11 +120,11 @@ stores : (l : Layout) (m : Mutating) (founds : List ℕ) → PollsMakeRoom → H
 stores l m [] law may = may
 stores l m (n ∷ ns) law may = law.goes_on l (machine_after (mutating.goes l) m ns).shapes (machine_after (mutating.goes l) m ns).processor n (stores l m ns law may)
 
-pub has_room_then : (l : Layout) (x x' : HeapActor) (founds : List ℕ) → PollsMakeRoom → IsProcessor x → x' ≡ machine_after (goes l) (begins x op.Poll) founds → ((m : Mutating) → x' ≡ Runs m → mutating.is_busy m ≡ false) → 2 ≤ room_at x'
+pub has_room_then : (l : Layout) (x x' : HeapActor) (founds : List ℕ) → PollsMakeRoom → IsProcessor x → x' ≡ machine_after (goes l) (begins x Op.Poll) founds → ((m : Mutating) → x' ≡ Runs m → mutating.is_busy m ≡ false) → 2 ≤ room_at x'
 has_room_then l (Marks w) x' founds law is after idle = absurd is
 has_room_then l (Leads c) x' founds law is after idle = absurd is
 has_room_then l (Runs m) x' founds law is after idle =
-    let n : Mutating = machine_after (mutating.goes l) (mutating.begins m op.Poll) founds in
-    let same : x' ≡ Runs n = after ∙ runs_after l (mutating.begins m op.Poll) founds in
+    let n : Mutating = machine_after (mutating.goes l) (mutating.begins m Op.Poll) founds in
+    let same : x' ≡ Runs n = after ∙ runs_after l (mutating.begins m Op.Poll) founds in
     let still : mutating.is_busy n ≡ false = idle n same in
-    subst (λ (y : HeapActor). 2 ≤ room_at y) (sym same) ((room_so n).0 (law.room n.processor (op.Store 0 0 0 0) still (stores l (mutating.begins m op.Poll) founds law (law.begins m.shapes m.processor))))
+    subst (λ (y : HeapActor). 2 ≤ room_at y) (sym same) ((room_so n).0 (law.room n.processor (Op.Store 0 0 0 0) still (stores l (mutating.begins m Op.Poll) founds law (law.begins m.shapes m.processor))))

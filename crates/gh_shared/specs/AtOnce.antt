@@ -1,15 +1,8 @@
 -- An operation whose steps were made while the machine of its processor stayed behind.
 use Rattle.std.specs.Prelude.{◌≡◌, ℕ, ◌≤◌, false, List, length, Some}
+use Rattle.gh_shared.specs.Vocabulary.{Answer, asks, begins, Gave, gives, goes, HasShapes, HeapActor, is_busy, Layout, machine_actor, Op, Planned, Ran, SawLegalList, setting, View}
 use Rattle.atomic_table.specs.Table.{Me}
-use Rattle.gh_base.specs.declared.layout.Layout.{Layout}
-use Rattle.gh_base.specs.declared.operation.Op.{Op}
-use Rattle.gh_base.specs.declared.value.Answer.{Answer}
-use Rattle.gh_table.specs.declared.plan.View.{View}
 use Rattle.gh_table.specs.Rule.{actor_in}
-use Rattle.gh_table.specs.Runs.{Gave, Ran, SawLegalList}
-use Rattle.gh_actor.specs.declared.actor.HeapActor.{HeapActor}
-use Rattle.gh_actor.specs.Machines.{asks, begins, gives, goes, HasShapes, is_busy, machine_actor}
-use Rattle.gh_actor.specs.Plans.{Planned, setting}
 
 -- The processor x has run the operation to its end, by exactly its steps, so many at the most. It is x' now: what it is after them, and what the actor is after its entries.
 pub record RanAtOnce (l : Layout) (a : ℕ) (o : Op) (most : ℕ) (x : HeapActor) (me : Me (Unit {0}) (View Planned Op)) (x' : HeapActor) (me' : Me (Unit {0}) (View Planned Op)) (given : Answer) : Type 0 where

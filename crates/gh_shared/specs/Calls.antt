@@ -1,30 +1,13 @@
 -- What the calls of a heap ask for, and what they do.
 use Rattle.std.specs.Prelude.{◌≡◌, ℕ, ◌+◌, ◌-◌, ◌%◌, ◌^◌, ◌<◌, ◌≤◌, true, false, not, ◌&&◌, if◌then◌else◌, List, length, Option, Some, None, ◌||◌, ◌++◌}
+use Rattle.gh_shared.specs.Vocabulary.{acks_of, Actor, Answer, answers_of, AnswersAsEver, arena_of, asks, asks_collector, at_seat, BeganAsEach, begins, by, Carries, Coordinating, ends, Entry, Gave, given_of, gives, goes, goroutine_of, has, HeapActor, IsProcessor, leaves, Legal, Op, Planned, Ran, SawLegalList, seats_of, setting, setup_of, ShowsCells, spent_among, state_of, View, words_after}
 use Rattle.gh_base.specs.declared.limits.TheConstants.{REGISTERS}
-use Rattle.gh_base.specs.declared.machine.Entry.{Entry}
-use Rattle.gh_base.specs.declared.operation.Op.{Op}
-use Rattle.gh_base.specs.declared.operation.Op.TheVariants as op
-use Rattle.gh_base.specs.declared.value.Answer.{Answer}
-use Rattle.gh_base.specs.Cells.{seats_of, ShowsCells}
-use Rattle.gh_base.specs.Lists.{by, Legal, state_of, words_after}
-use Rattle.gh_coord.specs.Listing.{Coordinating}
-use Rattle.gh_coord.specs.Stopping.{acks_of}
-use Rattle.gh_table.specs.Runs.{Gave, Ran, SawLegalList}
-use Rattle.gh_table.specs.declared.plan.View.{View}
-use Rattle.gh_table.specs.Views.{BeganAsEach, Carries, has}
-use Rattle.gh_lists.specs.declared.handshake.Actor.TheVariants as actor
-use Rattle.gh_world.specs.Below.{AllStands, spent_among}
-use Rattle.gh_lists.specs.Order.{ends, goroutine_of, leaves}
+use Rattle.gh_world.specs.Below.{AllStands}
 use Rattle.gh_mutator.specs.Listing.{is_busy_at}
-use Rattle.gh_lists.specs.Processors.{answers_of, AnswersAsEver, arena_of, asks_collector, at_seat, given_of}
 use Rattle.gh_shared.specs.declared.handle.Handle.{Handle}
 use Rattle.gh_shared.specs.declared.heap.Heap.{Heap}
-use Rattle.gh_actor.specs.declared.actor.HeapActor.{HeapActor}
 use Rattle.gh_shared.specs.Handles.{carries_of, ended_of, IsHandleOf, layout_of, left_of, machine_of, number_of, own_of, room_at, runs_in, view_of}
-use Rattle.gh_actor.specs.Machines.{asks, begins, gives, goes, IsProcessor}
-use Rattle.gh_actor.specs.Plans.{Planned, setting}
 use Rattle.gh_shared.specs.Shown.{left_by, runs_by}
-use Rattle.gh_world.specs.World.{setup_of}
 
 -- the handle of a processor of this heap that has not ended
 pub record IsGoing (heap : Heap) (h : Handle) : Type 0 where
@@ -40,18 +23,18 @@ module _ (p : Planned) (a : ℕ) (x : HeapActor) (own : List (Entry Op)) where
 
   -- the operation's registers, type and global are there; a further `new` or `gc` is left; a store has room for its entries; and who leaves has no goroutine left
   abbrev pub Fits : Op → Type 0
-  Fits (op.New g d t) = (d < REGISTERS) × (t < length p.script.shapes) × (1 ≤ left_by p own g)
-  Fits (op.Load g d b k) = (d < REGISTERS) × (b < REGISTERS)
-  Fits (op.Store g b k v) = (b < REGISTERS) × (v < REGISTERS) × (2 ≤ room_at x)
-  Fits (op.GetGlobal g d k) = (d < REGISTERS) × (k < p.layout.globals)
-  Fits (op.SetGlobal g k v) = (v < REGISTERS) × (k < p.layout.globals) × (2 ≤ room_at x)
-  Fits (op.Int g d n) = d < REGISTERS
-  Fits (op.Move g d s) = (d < REGISTERS) × (s < REGISTERS)
-  Fits (op.Nil g d) = d < REGISTERS
-  Fits (op.Gc g) = 1 ≤ left_by p own g
-  Fits op.Poll = Unit {0}
-  Fits (op.End g) = Unit {0}
-  Fits op.Leave = (g : ℕ) → runs_by p a own g ≡ false
+  Fits (Op.New g d t) = (d < REGISTERS) × (t < length p.script.shapes) × (1 ≤ left_by p own g)
+  Fits (Op.Load g d b k) = (d < REGISTERS) × (b < REGISTERS)
+  Fits (Op.Store g b k v) = (b < REGISTERS) × (v < REGISTERS) × (2 ≤ room_at x)
+  Fits (Op.GetGlobal g d k) = (d < REGISTERS) × (k < p.layout.globals)
+  Fits (Op.SetGlobal g k v) = (v < REGISTERS) × (k < p.layout.globals) × (2 ≤ room_at x)
+  Fits (Op.Int g d n) = d < REGISTERS
+  Fits (Op.Move g d s) = (d < REGISTERS) × (s < REGISTERS)
+  Fits (Op.Nil g d) = d < REGISTERS
+  Fits (Op.Gc g) = 1 ≤ left_by p own g
+  Fits Op.Poll = Unit {0}
+  Fits (Op.End g) = Unit {0}
+  Fits Op.Leave = (g : ℕ) → runs_by p a own g ≡ false
 
 -- the processor may begin the operation
 pub record May (heap : Heap) (h : Handle) (o : Op) : Type 0 where
@@ -125,5 +108,5 @@ pub record IsClosedAfter (p : Planned) (v : View Planned Op) (c : Coordinating) 
   pub words : ShowsCells p.layout ws (words_after (setting p).opening list)
   pub entries : (a : ℕ) → a < seats_of p.layout → by a list ≡ by a v.log
   pub seen : BeganAsEach v.seen list
-  pub coordinator : actor.Leads c ≡ state_of (setting p).kind (acks_of p.layout) list
+  pub coordinator : Actor.Leads c ≡ state_of (setting p).kind (acks_of p.layout) list
   pub spent : drawn ≡ spent_among (λ a. state_of (setting p).kind a list) (seats_of p.layout) % 2 ^ 64

@@ -1,14 +1,9 @@
 -- What a call leaves that answers a fault.
 use Rattle.std.specs.Prelude.{◌≡◌, true, All, List, ◌++◌}
-use Rattle.gh_base.specs.declared.machine.Entry.{Entry}
-use Rattle.gh_base.specs.declared.operation.Op.{Op}
-use Rattle.gh_base.specs.declared.value.Answer.{Answer}
-use Rattle.gh_base.specs.declared.value.Answer.TheVariants as answer
+use Rattle.gh_shared.specs.Vocabulary.{Answer, Entry, is_load, machine_actor, Op}
 use Rattle.gh_base.specs.declared.value.Fault.{Fault}
-use Rattle.gh_mutator.specs.Faults.{is_load}
 use Rattle.gh_shared.specs.declared.handle.Handle.{Handle}
 use Rattle.gh_shared.specs.Handles.{machine_of, own_of, room_of}
-use Rattle.gh_actor.specs.Machines.{machine_actor}
 
 -- Each entry that the call added to its actor's own is a load, so no word changed; and the processor is what it was, with all registers and what it knows.
 pub record LeavesAll (h h' : Handle) : Type 0 where
@@ -20,4 +15,4 @@ pub record LeavesAll (h h' : Handle) : Type 0 where
 
 -- so it is where the answer is a fault
 abbrev pub FaultLeavesAll : (h h' : Handle) → Answer → Type 0
-FaultLeavesAll h h' given = (cause : Fault) → given ≡ answer.Fault cause → LeavesAll h h'
+FaultLeavesAll h h' given = (cause : Fault) → given ≡ Answer.Fault cause → LeavesAll h h'

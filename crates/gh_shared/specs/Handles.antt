@@ -1,24 +1,12 @@
 -- What a handle is, and which handles a heap opens with.
 use Rattle.std.specs.Prelude.{◌≡◌, ℕ, Bool, not, List, length, slice_get, Some}
-use Rattle.gh_base.specs.declared.layout.Layout.{Layout}
-use Rattle.gh_base.specs.declared.machine.Entry.{Entry}
-use Rattle.gh_base.specs.declared.operation.Op.{Op}
-use Rattle.gh_base.specs.Cells.{length_of, seats_of}
-use Rattle.gh_base.specs.Lists.{by}
+use Rattle.gh_shared.specs.Vocabulary.{by, Entry, has_left, HeapActor, Layout, LaysOut, Leads, length_of, Marks, one_carried, Op, opening, Planned, Runs, seats_of, View}
 use Rattle.gh_coord.specs.Listing as coord
 use Rattle.gh_poll.specs.Room.{room_in}
-use Rattle.gh_table.specs.declared.plan.View.{View}
-use Rattle.gh_table.specs.Views.{one_carried}
 use Rattle.gh_script.specs.Program.{Program}
 use Rattle.gh_worker.specs.Listing as worker
-use Rattle.gh_lists.specs.Order.{has_left}
-use Rattle.gh_world.specs.World.{LaysOut}
 use Rattle.gh_shared.specs.declared.handle.Handle.{Handle}
 use Rattle.gh_shared.specs.declared.heap.Heap.{Heap}
-use Rattle.gh_actor.specs.declared.actor.HeapActor.{HeapActor}
-use Rattle.gh_actor.specs.declared.actor.HeapActor.TheVariants.{Leads, Marks, Runs}
-use Rattle.gh_actor.specs.Machines.{opening}
-use Rattle.gh_actor.specs.Plans.{Planned}
 use Rattle.gh_shared.specs.Shown.{count_among, left_by, runs_by}
 
 -- what the heap is of

@@ -1,13 +1,8 @@
 -- What an entry finds, by the entries before it that wrote its cell.
 use Rattle.std.specs.Prelude.{◌≡◌, Bool, true, false, not, ◌&&◌, All, List, ◌∷◌, ◌++◌}
+use Rattle.gh_shared.specs.Vocabulary.{Entry, is_load, Legal, Op, Planned, same_cell, setting}
 use Rattle.gh_base.specs.declared.cell.Cell.{Cell}
-use Rattle.gh_base.specs.declared.machine.Entry.{Entry}
-use Rattle.gh_base.specs.declared.operation.Op.{Op}
-use Rattle.gh_base.specs.Cells.{same_cell}
-use Rattle.gh_base.specs.Lists.{Legal}
 use Rattle.gh_base.specs.Steps.{cell_of, left}
-use Rattle.gh_mutator.specs.Faults.{is_load}
-use Rattle.gh_actor.specs.Plans.{Planned, setting}
 
 -- the entry is a step on this cell, and no load
 abbrev pub writes : Cell → Entry Op → Bool

@@ -4,3 +4,4 @@ pub mod Faults
 pub mod Handles
 pub mod LastWrites
 pub mod Shown
+pub mod Vocabulary

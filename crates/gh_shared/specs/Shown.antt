@@ -1,30 +1,13 @@
 -- What a handle shows of a processor's goroutines, by the processor's own entries.
 use Rattle.std.specs.Prelude.{◌≡◌, ℕ, zero, suc, ◌+◌, ◌-◌, ◌%◌, ◌^◌, ◌<◌, ◌≤◌, nat_lt, Bool, true, false, not, ◌==◌, ◌&&◌, if◌then◌else◌, List, [], ◌∷◌, length, slice_get, sum_by, Option, Some, None}
-use Rattle.gh_base.specs.declared.machine.Entry.{Entry}
-use Rattle.gh_base.specs.declared.operation.Op.{Op}
-use Rattle.gh_base.specs.declared.operation.Op.TheVariants as op
-use Rattle.gh_base.specs.Cells.{seats_of}
-use Rattle.gh_base.specs.Lists.{state_of}
+use Rattle.gh_shared.specs.Vocabulary.{acks_of, Actor, asked_by, Coordinating, ended_in, Entry, has, has_left, HeapActor, is_coordinator, Leads, machine_actor, MadeAtMost, Op, Planned, Runs, seats_of, setting, spent_at, state_of}
 use Rattle.gh_coord.specs.GoingOn.{HasNext}
-use Rattle.gh_coord.specs.Listing.{Coordinating}
-use Rattle.gh_coord.specs.Stopping.{acks_of}
 use Rattle.gh_mutator.specs.Mutating as mutating
 use Rattle.gh_mutator.specs.Mutating.{Mutating}
 use Rattle.gh_mutator.specs.Serving.{is_leaving}
 use Rattle.gh_mutator.specs.Sound.{most_objects}
-use Rattle.gh_table.specs.Views.{has}
-use Rattle.gh_lists.specs.declared.handshake.Actor.{Actor}
-use Rattle.gh_lists.specs.declared.handshake.Actor.TheVariants as actor
-use Rattle.gh_world.specs.Below.{spent_at}
-use Rattle.gh_lists.specs.Order.{ended_in, has_left}
-use Rattle.gh_lists.specs.Processors.{asked_by}
 use Rattle.gh_lists.specs.Wants.{total}
 use Rattle.gh_world.specs.Wishes.{wishes_of}
-use Rattle.gh_world.specs.World.{MadeAtMost}
-use Rattle.gh_actor.specs.declared.actor.HeapActor.{HeapActor}
-use Rattle.gh_actor.specs.declared.actor.HeapActor.TheVariants.{Leads, Runs}
-use Rattle.gh_actor.specs.Machines.{is_coordinator, machine_actor}
-use Rattle.gh_actor.specs.Plans.{Planned, setting}
 
 -- goroutine g is one of the processor at seat a, and has not ended by these entries
 abbrev pub runs_by : Planned → (a : ℕ) → List (Entry Op) → (g : ℕ) → Bool
@@ -36,8 +19,8 @@ left_by p own g = wishes_of p.script g - asked_by g own
 
 -- it is a `new` or a `gc`
 abbrev pub asks_for_cycle : Option Op → Bool
-asks_for_cycle (Some (op.New g d t)) = true
-asks_for_cycle (Some (op.Gc g)) = true
+asks_for_cycle (Some (Op.New g d t)) = true
+asks_for_cycle (Some (Op.Gc g)) = true
 asks_for_cycle _ = false
 
 -- how many of them were begun
@@ -91,7 +74,7 @@ leader_of _ led = led
 -- as an actor of the lists
 abbrev pub as_actor : Option Coordinating → Option Actor
 as_actor None = None
-as_actor (Some c) = Some (actor.Leads c)
+as_actor (Some c) = Some (Actor.Leads c)
 
 -- the second where there is no first
 abbrev pub first_of : Option Coordinating → Option Coordinating → Option Coordinating

@@ -1,32 +1,19 @@
 -- What acts in a whole run is an order of all operations, and where nothing is answered `full` it leaves the heap that this order leaves.
-use Rattle.std.proofs.Common.{◌≡◌, ◌≢◌, ℕ, suc, ◌<◌, ◌%◌, Bool, true, false, cond, eqb, List, [], ◌∷◌, ◌++◌, reverse, length, Option, Some, None, refl, sym, ap, subst, ◌∙◌, arith, inl, inr}
-use Rattle.std.specs.Prelude.{slice_get}
-use Rattle.std.specs.List.{filter}
-use Rattle.std.specs.Option.{option_to_list}
-use Rattle.std.proofs.lemmas.Bool.{cases_lt, eq-eqb, eqb-false, eqb-true}
+use Rattle.std.proofs.Common.{◌≡◌, ◌≢◌, ℕ, suc, ◌<◌, ◌%◌, Bool, true, false, cond, eqb, List, [], ◌∷◌, ◌++◌, reverse, length, Option, Some, None, refl, sym, ap, subst, ◌∙◌, arith, inl, inr, slice_get}
+use Rattle.std.proofs.lemmas.Bool.{eq-eqb, eqb-true}
 use Rattle.std.proofs.lemmas.Grind.{reverse_onto}
 use Rattle.std.proofs.lemmas.List.{append-nil, map-append, reverse-reverse}
-use Rattle.std.proofs.lemmas.List.Elements.{filter-append}
 use Rattle.std.proofs.lemmas.Nat.{mod_below}
+use Rattle.gh_soak.proofs.Vocabulary.{acted_at, acted_in, answer_of, Answered, answered, answers_of, before_step, cases_lt, eqb-false, Ever, ever_after, ever_left_by, ever_of, filter, filter-append, is_by_goroutine, is_of_seat, IsOrderOf, Op, opening_ever, operations_of, ops_of, option_to_list, order_at, order_of, Program, Shape, turns_of}
 use Rattle.gh_base.specs.declared.layout.Layout.{Layout}
 use Rattle.gh_base.specs.declared.machine.Entry.{Entry}
-use Rattle.gh_base.specs.declared.operation.Op.{Op}
-use Rattle.gh_base.specs.declared.operation.Op.TheVariants as op
-use Rattle.gh_base.specs.declared.shape.Shape.{Shape}
 use Rattle.gh_base.specs.declared.value.Answer.{Answer}
-use Rattle.gh_base.specs.declared.value.Answer.TheVariants as answers
-use Rattle.gh_generated.specs.Orders.{ever_left_by, is_by_goroutine, IsOrderOf, operations_of}
 use Rattle.gh_lines.specs.Text.{Outcome}
 use Rattle.gh_model.specs.Answers.{AllAnswer, answers_from, Answers, ever_after_all}
-use Rattle.gh_model.specs.Ever.{answer_of, Ever, ever_after, opening_ever}
 use Rattle.gh_mutator.specs.Deeds.{acted, answer_at}
 use Rattle.gh_mutator.specs.Listing.{Act, acts}
 use Rattle.gh_plenty.specs.Plenty.{NeverFull}
-use Rattle.gh_script.specs.Program.{Program}
-use Rattle.gh_lists.specs.Order.{acted_at, acted_in, answered, Answered, before_step, ever_of, order_at, order_of}
-use Rattle.gh_world.specs.Points.{answers_of, ops_of}
 use Rattle.gh_world.specs.Runs.{IsExplained}
-use Rattle.gh_world.specs.Turns.{is_of_seat, turns_of}
 use Rattle.gh_world.specs.World.{LaysOut}
 use Rattle.gh_soak.proofs.Turns.{turns_away, turns_beyond, turns_mine}
 
@@ -151,24 +138,24 @@ left_so shapes l (e ∷ es) = go (acts l (before_step shapes l es e) e.found) (l
       ∙ ap (λ (xs : List Answered). ever_after_all shapes opening_ever (ops_of xs) (answers_of xs)) (sym (reverse_more y (order_of shapes l es)))
 
 -- an answer that is not `full` is the one of that heap
-as_ever : (shapes : List Shape) (e : Ever) (o : Op) (a : Answer) → Answers shapes e o a → a ≢ answers.Full → a ≡ answer_of shapes e o
-as_ever shapes e (op.New g d t) a (inl is) ne = is
-as_ever shapes e (op.New g d t) a (inr full) ne = absurd (ne full)
-as_ever shapes e (op.Load g d b k) a is ne = is
-as_ever shapes e (op.Store g b k v) a is ne = is
-as_ever shapes e (op.GetGlobal g d k) a is ne = is
-as_ever shapes e (op.SetGlobal g k v) a is ne = is
-as_ever shapes e (op.Int g d n) a is ne = is
-as_ever shapes e (op.Move g d s) a is ne = is
-as_ever shapes e (op.Nil g d) a is ne = is
-as_ever shapes e (op.Gc g) a is ne = is
-as_ever shapes e op.Poll a is ne = is
-as_ever shapes e (op.End g) a is ne = is
-as_ever shapes e op.Leave a is ne = is
+as_ever : (shapes : List Shape) (e : Ever) (o : Op) (a : Answer) → Answers shapes e o a → a ≢ Answer.Full → a ≡ answer_of shapes e o
+as_ever shapes e (Op.New g d t) a (inl is) ne = is
+as_ever shapes e (Op.New g d t) a (inr full) ne = absurd (ne full)
+as_ever shapes e (Op.Load g d b k) a is ne = is
+as_ever shapes e (Op.Store g b k v) a is ne = is
+as_ever shapes e (Op.GetGlobal g d k) a is ne = is
+as_ever shapes e (Op.SetGlobal g k v) a is ne = is
+as_ever shapes e (Op.Int g d n) a is ne = is
+as_ever shapes e (Op.Move g d s) a is ne = is
+as_ever shapes e (Op.Nil g d) a is ne = is
+as_ever shapes e (Op.Gc g) a is ne = is
+as_ever shapes e Op.Poll a is ne = is
+as_ever shapes e (Op.End g) a is ne = is
+as_ever shapes e Op.Leave a is ne = is
 
 -- none of these was answered `full`
 abbrev NoneFull : List Answered → Type 0
-NoneFull xs = (i : ℕ) (a : Answered) → slice_get xs i ≡ Some a → a.answer ≢ answers.Full
+NoneFull xs = (i : ℕ) (a : Answered) → slice_get xs i ≡ Some a → a.answer ≢ Answer.Full
 
 all_ever : (shapes : List Shape) (e : Ever) (xs : List Answered) → AllAnswer shapes e (ops_of xs) (answers_of xs) → NoneFull xs → answers_of xs ≡ answers_from shapes e (ops_of xs)
 all_ever shapes e [] all none = refl

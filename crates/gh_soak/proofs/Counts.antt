@@ -1,12 +1,8 @@
 -- Two lists of the same names, each name once, have the same length and the same sums.
-use Rattle.std.proofs.Common.{◌≡◌, ◌≢◌, ℕ, suc, ◌<◌, ◌≤◌, ◌⊎◌, inl, inr, refl, sym, ap, subst, ◌∙◌, arith, List, [], ◌∷◌, ◌++◌, get_or, length}
-use Rattle.std.specs.Prelude.{AllPairs, sum_by}
+use Rattle.std.proofs.Common.{◌≡◌, ◌≢◌, ℕ, suc, ◌<◌, ◌≤◌, ◌⊎◌, inl, inr, refl, sym, ap, subst, ◌∙◌, arith, List, [], ◌∷◌, ◌++◌, get_or, length, AllPairs, sum_by}
 use Rattle.std.proofs.lemmas.List.{length-append}
-use Rattle.std.proofs.lemmas.List.Sums.{sum_by-append, sum_by-cons}
-use Rattle.gh_base.specs.declared.shape.Shape.{Shape}
+use Rattle.gh_soak.proofs.Vocabulary.{AreLive, bytes_of, Ever, Shape, sum_by-append, sum_by-cons}
 use Rattle.gh_base.specs.declared.value.Name.{Name}
-use Rattle.gh_model.specs.Ever.{Ever}
-use Rattle.gh_world.specs.Cycles.{AreLive, bytes_of}
 use Rattle.gh_world.specs.RunVocabulary.{IsAmong}
 
 among_append : (n : Name) (xs ys : List Name) → IsAmong n (xs ++ ys) → IsAmong n xs ⊎ IsAmong n ys

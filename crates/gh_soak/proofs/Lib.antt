@@ -1,3 +1,4 @@
 pub mod Turns
 pub mod Acting
 pub mod Counts
+pub mod Vocabulary

@@ -1,22 +1,12 @@
 -- The operations of a goroutine stand among the turns of its processor in their order, and among those of no other.
-use Rattle.std.proofs.Common.{◌≡◌, ◌≢◌, ℕ, zero, suc, ◌+◌, ◌<◌, ◌≤◌, Bool, true, false, cond, eqb, leb, ◌&&◌, List, [], ◌∷◌, ◌++◌, map, length, drop, Option, Some, None, refl, sym, ap, subst, ◌∙◌, arith, inl, inr}
-use Rattle.std.specs.Prelude.{slice_get}
-use Rattle.std.specs.List.{filter, flat_map, range_with_len}
-use Rattle.std.specs.Option.{option_to_list}
-use Rattle.std.proofs.lemmas.Bool.{cases_lt, eq-eqb, eqb-false, eqb-true}
+use Rattle.std.proofs.Common.{◌≡◌, ◌≢◌, ℕ, zero, suc, ◌+◌, ◌<◌, ◌≤◌, Bool, true, false, cond, eqb, leb, ◌&&◌, List, [], ◌∷◌, ◌++◌, map, length, drop, Option, Some, None, refl, sym, ap, subst, ◌∙◌, arith, inl, inr, slice_get}
+use Rattle.std.proofs.lemmas.Bool.{eq-eqb, eqb-true}
 use Rattle.std.proofs.lemmas.Bool.Decides.{nat_tests}
 use Rattle.std.proofs.lemmas.List.{append-nil, drop_all, drop_more, get_or_past, length-append, length-map}
-use Rattle.std.proofs.lemmas.List.Elements.{filter-append}
-use Rattle.std.proofs.lemmas.List.Sums.{get_or-le-sum_by}
 use Rattle.std.proofs.lemmas.Option.{slice_get-get_or, slice_get_past}
-use Rattle.gh_base.specs.declared.operation.Op.{Op}
-use Rattle.gh_base.specs.declared.operation.Op.TheVariants as op
-use Rattle.gh_generated.specs.Orders.{is_by_goroutine, operations_of}
+use Rattle.gh_soak.proofs.Vocabulary.{cases_lt, count_of, eqb-false, filter, filter-append, flat_map, get_or-le-sum_by, Goroutine, has_turn, is_by_goroutine, is_of_seat, no_goroutine, Op, operations_of, option_to_list, Program, range_with_len, round_of, statement_as_op, statements_in, statements_of, total_of, turn_of, turns_of}
 use Rattle.gh_interp.specs.Working.{work_at}
 use Rattle.gh_script.specs.declared.statement.Stmt.{Stmt}
-use Rattle.gh_script.specs.declared.statement.Stmt.TheVariants as statements
-use Rattle.gh_script.specs.Program.{Goroutine, no_goroutine, Program, statement_as_op, statements_in, statements_of}
-use Rattle.gh_world.specs.Turns.{count_of, has_turn, is_of_seat, round_of, total_of, turn_of, turns_of}
 
 -- ---- lists
 
@@ -32,15 +22,15 @@ pieces {X} xs r d = elim (cases_lt r (length xs)) [
 -- what goroutine h does is of goroutine h
 work_is : (g h : ℕ) (s : Option Stmt) → is_by_goroutine g (work_at h s) ≡ eqb h g
 work_is g h None = refl
-work_is g h (Some (statements.New d t)) = refl
-work_is g h (Some (statements.Load d b k)) = refl
-work_is g h (Some (statements.Store b k v)) = refl
-work_is g h (Some (statements.GetGlobal d k)) = refl
-work_is g h (Some (statements.SetGlobal k v)) = refl
-work_is g h (Some (statements.Int d n)) = refl
-work_is g h (Some (statements.Move d s)) = refl
-work_is g h (Some (statements.Nil d)) = refl
-work_is g h (Some statements.Gc) = refl
+work_is g h (Some (Stmt.New d t)) = refl
+work_is g h (Some (Stmt.Load d b k)) = refl
+work_is g h (Some (Stmt.Store b k v)) = refl
+work_is g h (Some (Stmt.GetGlobal d k)) = refl
+work_is g h (Some (Stmt.SetGlobal k v)) = refl
+work_is g h (Some (Stmt.Int d n)) = refl
+work_is g h (Some (Stmt.Move d s)) = refl
+work_is g h (Some (Stmt.Nil d)) = refl
+work_is g h (Some Stmt.Gc) = refl
 
 differs : (h g : ℕ) → h ≢ g → eqb h g ≡ false
 differs h g ne = grind (arith, nat_tests)
@@ -69,22 +59,22 @@ module _ (p : Program) (g : ℕ) where
   ]
 
   many_operations : length (operations_of p g) ≡ count_of p g + 1
-  many_operations = length-append (map (statement_as_op g) (statements_of p g)) (op.End g ∷ []) ∙ ap (λ (n : ℕ). n + 1) (length-map (statements_of p g) (statement_as_op g))
+  many_operations = length-append (map (statement_as_op g) (statements_of p g)) (Op.End g ∷ []) ∙ ap (λ (n : ℕ). n + 1) (length-map (statements_of p g) (statement_as_op g))
 
   -- in round r the goroutine does what stands at place r, if anything
-  turn_piece : (xs : List Stmt) (r : ℕ) → mine (cond (leb r (length xs)) (op.Poll ∷ work_at g (slice_get xs r) ∷ []) []) ≡ option_to_list (slice_get (map (statement_as_op g) xs ++ op.End g ∷ []) r)
-  turn_piece [] zero = ap (λ (b : Bool). cond b (op.End g ∷ []) []) (eq-eqb g g refl)
-  turn_piece [] (suc r) = ap (λ (b : Bool). mine (cond b (op.Poll ∷ op.End g ∷ []) [])) (past r) where
+  turn_piece : (xs : List Stmt) (r : ℕ) → mine (cond (leb r (length xs)) (Op.Poll ∷ work_at g (slice_get xs r) ∷ []) []) ≡ option_to_list (slice_get (map (statement_as_op g) xs ++ Op.End g ∷ []) r)
+  turn_piece [] zero = ap (λ (b : Bool). cond b (Op.End g ∷ []) []) (eq-eqb g g refl)
+  turn_piece [] (suc r) = ap (λ (b : Bool). mine (cond b (Op.Poll ∷ Op.End g ∷ []) [])) (past r) where
     past : (n : ℕ) → leb (suc n) 0 ≡ false
     past n = grind (arith, nat_tests)
-  turn_piece (x ∷ xs) zero = ap (λ (b : Bool). mine (cond b (op.Poll ∷ statement_as_op g x ∷ []) [])) (leb_first (suc (length xs))) ∙ ap (λ (b : Bool). cond b (statement_as_op g x ∷ []) []) (work_is g g (Some x) ∙ eq-eqb g g refl)
-  turn_piece (x ∷ xs) (suc r) = ap (λ (b : Bool). mine (cond b (op.Poll ∷ work_at g (slice_get xs r) ∷ []) [])) (leb_both r (length xs)) ∙ turn_piece xs r
+  turn_piece (x ∷ xs) zero = ap (λ (b : Bool). mine (cond b (Op.Poll ∷ statement_as_op g x ∷ []) [])) (leb_first (suc (length xs))) ∙ ap (λ (b : Bool). cond b (statement_as_op g x ∷ []) []) (work_is g g (Some x) ∙ eq-eqb g g refl)
+  turn_piece (x ∷ xs) (suc r) = ap (λ (b : Bool). mine (cond b (Op.Poll ∷ work_at g (slice_get xs r) ∷ []) [])) (leb_both r (length xs)) ∙ turn_piece xs r
 
   -- Among the turns of one processor.
   module _ (a : ℕ) where
     turn_other : (r h : ℕ) → h ≢ g → mine (turn_of p a r h) ≡ []
     turn_other r h ne = go (has_turn p a r h) where
-      go : (b : Bool) → mine (cond b (op.Poll ∷ work_at h (slice_get (statements_of p h) r) ∷ []) []) ≡ []
+      go : (b : Bool) → mine (cond b (Op.Poll ∷ work_at h (slice_get (statements_of p h) r) ∷ []) []) ≡ []
       go false = refl
       go true = ap (λ (b : Bool). cond b (work_at h (slice_get (statements_of p h) r) ∷ []) []) (work_is g h (slice_get (statements_of p h) r) ∙ differs h g ne)
 
@@ -107,7 +97,7 @@ module _ (p : Program) (g : ℕ) where
     none_among : ((k : ℕ) → mine (round_of p a k) ≡ []) → mine (turns_of p a) ≡ []
     unfolding turns_of
     none_among none =
-        filter-append (is_by_goroutine g) (flat_map (round_of p a) (range_with_len 0 (total_of p + 1))) (op.Leave ∷ [])
+        filter-append (is_by_goroutine g) (flat_map (round_of p a) (range_with_len 0 (total_of p + 1))) (Op.Leave ∷ [])
         ∙ append-nil (mine (flat_map (round_of p a) (range_with_len 0 (total_of p + 1))))
         ∙ no_rounds (total_of p + 1) 0 none
 
@@ -122,12 +112,12 @@ module _ (p : Program) (g : ℕ) where
       away r h = go (eqb h g) refl where
         go : (b : Bool) → eqb h g ≡ b → mine (turn_of p a r h) ≡ []
         go false ne = turn_other r h (eqb-false h g ne)
-        go true e = ap (λ (k : ℕ). mine (turn_of p a r k)) (eqb-true h g e) ∙ ap (λ (b : Bool). mine (cond (b && leb r (count_of p g)) (op.Poll ∷ work_at g (slice_get (statements_of p g) r) ∷ []) [])) others
+        go true e = ap (λ (k : ℕ). mine (turn_of p a r k)) (eqb-true h g e) ∙ ap (λ (b : Bool). mine (cond (b && leb r (count_of p g)) (Op.Poll ∷ work_at g (slice_get (statements_of p g) r) ∷ []) [])) others
 
     -- where it is of this one
     module _ (lt : g < length p.goroutines) (its : is_of_seat p a g ≡ true) where
       turn_mine : (r : ℕ) → mine (turn_of p a r g) ≡ piece r
-      turn_mine r = ap (λ (b : Bool). mine (cond (b && leb r (count_of p g)) (op.Poll ∷ work_at g (slice_get (statements_of p g) r) ∷ []) [])) its ∙ turn_piece (statements_of p g) r
+      turn_mine r = ap (λ (b : Bool). mine (cond (b && leb r (count_of p g)) (Op.Poll ∷ work_at g (slice_get (statements_of p g) r) ∷ []) [])) its ∙ turn_piece (statements_of p g) r
 
       here : (r n h : ℕ) → h ≤ g → g < h + n → mine (flat_map (turn_of p a r) (range_with_len h n)) ≡ piece r
       here r zero h low high = absurd (omega arith)
@@ -148,28 +138,28 @@ module _ (p : Program) (g : ℕ) where
           filter-append (is_by_goroutine g) (round_of p a r) (flat_map (round_of p a) (range_with_len (r + 1) n))
           ∙ ap (λ (os : List Op). os ++ mine (flat_map (round_of p a) (range_with_len (r + 1) n))) (here r (length p.goroutines) 0 (omega arith) (omega (arith, lt)))
           ∙ ap (λ (os : List Op). piece r ++ os) (rounds_mine n (r + 1) (omega (arith, few)))
-          ∙ pieces (operations_of p g) r op.Poll
+          ∙ pieces (operations_of p g) r Op.Poll
 
       -- what it does among the turns are its operations
       pub turns_mine : mine (turns_of p a) ≡ operations_of p g
       unfolding turns_of
       turns_mine =
-          filter-append (is_by_goroutine g) (flat_map (round_of p a) (range_with_len 0 (total_of p + 1))) (op.Leave ∷ [])
+          filter-append (is_by_goroutine g) (flat_map (round_of p a) (range_with_len 0 (total_of p + 1))) (Op.Leave ∷ [])
           ∙ append-nil (mine (flat_map (round_of p a) (range_with_len 0 (total_of p + 1))))
           ∙ rounds_mine (total_of p + 1) 0 (omega (arith, few_statements))
 
   -- ---- one goroutine behind the other
 
-  own_work : (h : ℕ) (xs : List Stmt) → h ≡ g → mine (map (statement_as_op h) xs ++ op.End h ∷ []) ≡ map (statement_as_op h) xs ++ op.End h ∷ []
-  own_work h [] same = ap (λ (b : Bool). cond b (op.End h ∷ []) []) (eq-eqb h g same)
+  own_work : (h : ℕ) (xs : List Stmt) → h ≡ g → mine (map (statement_as_op h) xs ++ Op.End h ∷ []) ≡ map (statement_as_op h) xs ++ Op.End h ∷ []
+  own_work h [] same = ap (λ (b : Bool). cond b (Op.End h ∷ []) []) (eq-eqb h g same)
   own_work h (x ∷ xs) same =
-      ap (λ (b : Bool). cond b (statement_as_op h x ∷ mine (map (statement_as_op h) xs ++ op.End h ∷ [])) (mine (map (statement_as_op h) xs ++ op.End h ∷ []))) (work_is g h (Some x) ∙ eq-eqb h g same)
+      ap (λ (b : Bool). cond b (statement_as_op h x ∷ mine (map (statement_as_op h) xs ++ Op.End h ∷ [])) (mine (map (statement_as_op h) xs ++ Op.End h ∷ []))) (work_is g h (Some x) ∙ eq-eqb h g same)
       ∙ ap (λ (os : List Op). statement_as_op h x ∷ os) (own_work h xs same)
 
-  other_work : (h : ℕ) (xs : List Stmt) → h ≢ g → mine (map (statement_as_op h) xs ++ op.End h ∷ []) ≡ []
-  other_work h [] ne = ap (λ (b : Bool). cond b (op.End h ∷ []) []) (differs h g ne)
+  other_work : (h : ℕ) (xs : List Stmt) → h ≢ g → mine (map (statement_as_op h) xs ++ Op.End h ∷ []) ≡ []
+  other_work h [] ne = ap (λ (b : Bool). cond b (Op.End h ∷ []) []) (differs h g ne)
   other_work h (x ∷ xs) ne =
-      ap (λ (b : Bool). cond b (statement_as_op h x ∷ mine (map (statement_as_op h) xs ++ op.End h ∷ [])) (mine (map (statement_as_op h) xs ++ op.End h ∷ []))) (work_is g h (Some x) ∙ differs h g ne)
+      ap (λ (b : Bool). cond b (statement_as_op h x ∷ mine (map (statement_as_op h) xs ++ Op.End h ∷ [])) (mine (map (statement_as_op h) xs ++ Op.End h ∷ []))) (work_is g h (Some x) ∙ differs h g ne)
       ∙ other_work h xs ne
 
   none_in : (n h : ℕ) → ((k : ℕ) → h ≤ k → k < h + n → k ≢ g) → mine (flat_map (operations_of p) (range_with_len h n)) ≡ []

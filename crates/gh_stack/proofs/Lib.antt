@@ -1,2 +1,3 @@
 pub mod Markers
 pub mod Scanning
+pub mod Vocabulary

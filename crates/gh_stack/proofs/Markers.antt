@@ -1,11 +1,9 @@
 -- While marking is on the scan of a stack knows the registers before the one that is shaded as clean, and its step is the move that makes the stack black.
-use Rattle.std.proofs.Common.{◌≡◌, ℕ, suc, ◌+◌, ◌-◌, ◌<◌, ◌≤◌, List, [], ◌∷◌, length, drop, Some, refl, sym, ap, subst, ◌∙◌, arith, below_more}
-use Rattle.std.specs.Prelude.{slice_index_or}
+use Rattle.std.proofs.Common.{◌≡◌, ℕ, suc, ◌+◌, ◌-◌, ◌<◌, ◌≤◌, List, [], ◌∷◌, length, drop, Some, refl, sym, ap, subst, ◌∙◌, arith, below_more, slice_index_or}
 use Rattle.std.proofs.lemmas.List.{get_or-drop, length-drop}
-use Rattle.gh_base.specs.declared.cell.Cell.TheVariants as cell
+use Rattle.gh_stack.proofs.Vocabulary.{after_shade, asks, asks_at, Ended, first_reference, opening, Shade, StackScan, StackStage, Store, Value, wish_of}
+use Rattle.gh_base.specs.declared.cell.Cell.{Cell}
 use Rattle.gh_base.specs.declared.limits.TheConstants.{REGISTERS}
-use Rattle.gh_base.specs.declared.value.Value.{Value}
-use Rattle.gh_base.specs.declared.value.Value.TheVariants as value
 use Rattle.gh_base.specs.Cells.{put}
 use Rattle.gh_base.specs.Rows.{Row, mark_words}
 use Rattle.gh_base.specs.Steps.{effect}
@@ -15,10 +13,7 @@ use Rattle.gh_marks.specs.Good.{Good}
 use Rattle.gh_marks.specs.Laws.{EachFactLasts}
 use Rattle.gh_marks.specs.Moves.{Keeps, MayScanStack, ScanStack, Steps, lands_by, moved}
 use Rattle.gh_marks.specs.Seats.{CleanBelow}
-use Rattle.gh_stack.specs.declared.scan_stack.StackStage.{StackStage}
-use Rattle.gh_stack.specs.declared.scan_stack.StackStage.TheVariants.{Shade, Store, Ended}
 use Rattle.gh_stack.specs.Facts.{AreRegisters, Begins, Facts, IsWish, StacksAreScannedByMoves, StageFacts, named}
-use Rattle.gh_stack.specs.Listing.{StackScan, after_shade, asks, asks_at, first_reference, opening, wish_of}
 
 -- one register more is clean
 clean-more : (mark row : Row) (i : ℕ) → CleanBelow mark row i → IsClean mark (row i) → CleanBelow mark row (i + 1)
@@ -34,8 +29,8 @@ module _ (s : Shared) (g : ℕ) where
   -- these are the values of the registers from number i on
   record AreFrom (i : ℕ) (values : List Value) : Type 0 where
     pub all : i + length values ≡ REGISTERS
-    pub each : (n : ℕ) → n < length values → row (i + n) ≡ named (slice_index_or values n value.Nil)
-    pub some : (n reference : ℕ) → n < length values → slice_index_or values n value.Nil ≡ value.Ref reference → 1 ≤ reference
+    pub each : (n : ℕ) → n < length values → row (i + n) ≡ named (slice_index_or values n Value.Nil)
+    pub some : (n reference : ℕ) → n < length values → slice_index_or values n Value.Nil ≡ Value.Ref reference → 1 ≤ reference
 
   behind : (i : ℕ) (v : Value) (values : List Value) → AreFrom i (v ∷ values) → AreFrom (i + 1) values
   behind i v values h = record {
@@ -50,15 +45,15 @@ module _ (s : Shared) (g : ℕ) where
   -- the first reference from there on
   first : (i : ℕ) (values : List Value) → AreFrom i values → CleanBelow (mark_words s.words) row i → StageFacts s g (first_reference i values)
   first i [] h c = let all : i ≡ REGISTERS = omega (arith, h.all) in subst (λ (n : ℕ). CleanBelow (mark_words s.words) row n) all c
-  first i (value.Ref reference ∷ values) h c = record { within = omega (arith, h.all); names = here i (value.Ref reference) values h; some = h.some 0 reference (omega arith) refl; before = c }
-  first i (value.Nil ∷ values) h c = first (i + 1) values (behind i value.Nil values h) (clean-more (mark_words s.words) row i c (clean-nil (mark_words s.words) (row i) (here i value.Nil values h)))
-  first i (value.Int n ∷ values) h c = first (i + 1) values (behind i (value.Int n) values h) (clean-more (mark_words s.words) row i c (clean-nil (mark_words s.words) (row i) (here i (value.Int n) values h)))
+  first i (Value.Ref reference ∷ values) h c = record { within = omega (arith, h.all); names = here i (Value.Ref reference) values h; some = h.some 0 reference (omega arith) refl; before = c }
+  first i (Value.Nil ∷ values) h c = first (i + 1) values (behind i Value.Nil values h) (clean-more (mark_words s.words) row i c (clean-nil (mark_words s.words) (row i) (here i Value.Nil values h)))
+  first i (Value.Int n ∷ values) h c = first (i + 1) values (behind i (Value.Int n) values h) (clean-more (mark_words s.words) row i c (clean-nil (mark_words s.words) (row i) (here i (Value.Int n) values h)))
 
   from : (i : ℕ) (registers : List Value) → AreRegisters row registers → i ≤ REGISTERS → AreFrom i (drop i registers)
   from i registers h le = record {
     all = omega (arith, h.whole, length-drop i registers);
-    each = λ n l. h.each (i + n) (omega (arith, l, length-drop i registers)) ∙ ap named (sym (get_or-drop i registers n value.Nil));
-    some = λ n reference l e. h.some (i + n) reference (omega (arith, l, length-drop i registers)) (sym (get_or-drop i registers n value.Nil) ∙ e);
+    each = λ n l. h.each (i + n) (omega (arith, l, length-drop i registers)) ∙ ap named (sym (get_or-drop i registers n Value.Nil));
+    some = λ n reference l e. h.some (i + n) reference (omega (arith, l, length-drop i registers)) (sym (get_or-drop i registers n Value.Nil) ∙ e);
   }
 
 begins : (z : Cycle) (a : ℕ) (s : Shared) (g : ℕ) (registers : List Value) → Begins z a s g → AreRegisters (s.registers g) registers → Facts z a s (opening g z.number registers)
@@ -92,7 +87,7 @@ told-at s g registers Ended reference h f e marked = absurd (cc)
 stores : (z : Cycle) (a : ℕ) (s : Shared) (m : StackScan) → Facts z a s m → CleanBelow (mark_words s.words) (s.registers m.goroutine) REGISTERS → Steps z a s (asks_at m Store) (λ t. t ≡ moved z a s (ScanStack m.goroutine))
 stores z a s m f clean =
     let may : MayScanStack z a s m.goroutine = record { own = f.own; goes_on = f.goes_on; clean = λ d l. clean d l } in
-    lands_by z a s (effect s.words (asks_at m Store)) (λ t. t ≡ moved z a s (ScanStack m.goroutine)) (ScanStack m.goroutine) may (ap (λ (n : ℕ). put s.words (cell.Scanned m.goroutine) n) (sym f.cycle_is)) refl
+    lands_by z a s (effect s.words (asks_at m Store)) (λ t. t ≡ moved z a s (ScanStack m.goroutine)) (ScanStack m.goroutine) may (ap (λ (n : ℕ). put s.words (Cell.Scanned m.goroutine) n) (sym f.cycle_is)) refl
 
 own-step : (z : Cycle) (a : ℕ) (s : Shared) (m : StackScan) → Facts z a s m → m.stage ≡ Store → Steps z a s (asks m) (λ t. t ≡ moved z a s (ScanStack m.goroutine))
 own-step z a s m f e = subst (λ (p : StackStage). Steps z a s (asks_at m p) (λ t. t ≡ moved z a s (ScanStack m.goroutine))) (sym e)

@@ -1,11 +1,6 @@
 -- The scan of a stack, register by register.
-use Rattle.std.proofs.Common.{◌≡◌, ℕ, zero, suc, ◌+◌, ◌<◌, false, List, [], ◌∷◌, length, drop, Some, refl, sym, ap, subst, ◌∙◌, arith}
-use Rattle.std.specs.Prelude.{slice_index}
-use Rattle.gh_base.specs.declared.value.Value.{Value}
-use Rattle.gh_base.specs.declared.value.Value.TheVariants as value
-use Rattle.gh_stack.specs.declared.scan_stack.StackStage.{StackStage}
-use Rattle.gh_stack.specs.declared.scan_stack.StackStage.TheVariants.{Shade, Store}
-use Rattle.gh_stack.specs.Listing.{asks, first_reference, gives, goes, is_busy, shade_stage_from, StackScan, wish_of}
+use Rattle.std.proofs.Common.{◌≡◌, ℕ, zero, suc, ◌+◌, ◌<◌, false, List, [], ◌∷◌, length, drop, Some, refl, sym, ap, subst, ◌∙◌, arith, slice_index}
+use Rattle.gh_stack.proofs.Vocabulary.{asks, first_reference, gives, goes, is_busy, Shade, shade_stage_from, StackScan, StackStage, Store, Value, wish_of}
 use Rattle.gh_stack.specs.Scans.{references, ScansStack, shaded_times}
 
 -- the values behind the first of those from a register on
@@ -28,10 +23,10 @@ module _ (goroutine cycle : ℕ) (registers : List Value) where
 
   from_here : (values : List Value) (i : ℕ) → drop i registers ≡ values → Wishes (first_reference i values) (references values)
   from_here [] i e = record { wishes = λ n lt. absurd (omega arith); waits = λ n lt. absurd (omega arith); behind = refl }
-  from_here (value.Nil ∷ values) i e = from_here values (i + 1) (drop_next i registers value.Nil values e)
-  from_here (value.Int n ∷ values) i e = from_here values (i + 1) (drop_next i registers (value.Int n) values e)
-  from_here (value.Ref r ∷ values) i e =
-      let next : drop (i + 1) registers ≡ values = drop_next i registers (value.Ref r) values e in
+  from_here (Value.Nil ∷ values) i e = from_here values (i + 1) (drop_next i registers Value.Nil values e)
+  from_here (Value.Int n ∷ values) i e = from_here values (i + 1) (drop_next i registers (Value.Int n) values e)
+  from_here (Value.Ref r ∷ values) i e =
+      let next : drop (i + 1) registers ≡ values = drop_next i registers (Value.Ref r) values e in
       more (subst (λ (vs : List Value). Wishes (first_reference (i + 1) vs) (references values)) (sym next) (from_here values (i + 1) next)) where
         more : Wishes (shade_stage_from registers (i + 1)) (references values) → Wishes (Shade i r) (r ∷ references values)
         more rest = record { wishes = wishes; waits = waits; behind = rest.behind } where

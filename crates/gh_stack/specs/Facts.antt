@@ -1,31 +1,27 @@
 -- What is known at each stage of the scan of a stack while marking is on. Its goroutine runs no statement meanwhile, so the registers stand still, and those before the one that is shaded are clean. So all are clean where the cycle is stored, and the stack is black then.
 use Rattle.std.specs.Prelude.{◌≡◌, ◌≢◌, ℕ, ◌-◌, ◌<◌, ◌≤◌, true, List, length, slice_index_or, Some}
-use Rattle.gh_base.specs.declared.cell.Cell.TheVariants as cell
-use Rattle.gh_base.specs.declared.limits.TheConstants.{REGISTERS}
+use Rattle.gh_stack.specs.Vocabulary.{Ended, REGISTERS, Shade, StackStage, Store, Value}
+use Rattle.gh_base.specs.declared.cell.Cell.{Cell}
 use Rattle.gh_base.specs.declared.pack.TheConstants.{END}
-use Rattle.gh_base.specs.declared.value.Value.{Value}
-use Rattle.gh_base.specs.declared.value.Value.TheVariants as value
 use Rattle.gh_base.specs.Rows.{Row, mark_words}
 use Rattle.gh_heap.specs.Rights.{IsOf}
 use Rattle.gh_marks.specs.Colours.{Cycle, IsMarked, Shared}
 use Rattle.gh_marks.specs.Good.{Good}
 use Rattle.gh_marks.specs.Moves.{Keeps, ScanStack, Steps, moved}
 use Rattle.gh_marks.specs.Seats.{CleanBelow}
-use Rattle.gh_stack.specs.declared.scan_stack.StackStage.{StackStage}
-use Rattle.gh_stack.specs.declared.scan_stack.StackStage.TheVariants.{Shade, Store, Ended}
 use Rattle.gh_stack.specs.Listing.{StackScan, asks, opening, told_shaded, wish_of}
 
 -- the object that a value names, as 1 more than its heap word; nil and numbers name none
 abbrev pub named : Value → ℕ
-named (value.Ref reference) = reference
+named (Value.Ref reference) = reference
 named _ = 0
 
 -- the registers of the goroutine name what these values name
 pub record AreRegisters (row : Row) (registers : List Value) : Type 0 where
   pub whole : length registers ≡ REGISTERS
-  pub each : (d : ℕ) → d < length registers → row d ≡ named (slice_index_or registers d value.Nil)
+  pub each : (d : ℕ) → d < length registers → row d ≡ named (slice_index_or registers d Value.Nil)
   -- and no reference is 0
-  pub some : (d reference : ℕ) → d < length registers → slice_index_or registers d value.Nil ≡ value.Ref reference → 1 ≤ reference
+  pub some : (d reference : ℕ) → d < length registers → slice_index_or registers d Value.Nil ≡ Value.Ref reference → 1 ≤ reference
 
 -- the register whose reference is shaded, and those before it
 pub record IsShading (s : Shared) (g register reference : ℕ) : Type 0 where
@@ -42,7 +38,7 @@ StageFacts s g Ended = Unit {0}
 -- it is the stack of a goroutine of this seat, which goes on, in this cycle
 pub record Facts (z : Cycle) (a : ℕ) (s : Shared) (m : StackScan) : Type 0 where
   pub own : IsOf z.arena a m.goroutine
-  pub goes_on : s.words (cell.Scanned m.goroutine) ≢ END
+  pub goes_on : s.words (Cell.Scanned m.goroutine) ≢ END
   pub cycle_is : m.cycle ≡ z.number
   pub registers_are : AreRegisters (s.registers m.goroutine) m.registers
   pub stage_is : StageFacts s m.goroutine m.stage
@@ -50,7 +46,7 @@ pub record Facts (z : Cycle) (a : ℕ) (s : Shared) (m : StackScan) : Type 0 whe
 -- where it begins
 pub record Begins (z : Cycle) (a : ℕ) (s : Shared) (g : ℕ) : Type 0 where
   pub own : IsOf z.arena a g
-  pub goes_on : s.words (cell.Scanned g) ≢ END
+  pub goes_on : s.words (Cell.Scanned g) ≢ END
 
 -- what it wishes to be shaded is an object of the cycle
 pub record IsWish (s : Shared) (reference : ℕ) : Type 0 where

@@ -1,18 +1,11 @@
 -- The scan of a stack: what is wished and asked for at each stage, where that leads, and what it gives.
 use Rattle.std.specs.Prelude.{ℕ, ◌+◌, Bool, true, false, List, [], ◌∷◌, drop, Option, Some, None, is_none}
-use Rattle.gh_base.specs.declared.cell.Cell.TheVariants.{Touch, Scanned}
+use Rattle.gh_stack.specs.Vocabulary.{Ended, Layout, Scanned, ScanStack, Shade, StackStage, Store, Touch, Value}
 use Rattle.gh_base.specs.declared.cell.Ask.{Ask}
-use Rattle.gh_base.specs.declared.cell.Ask.TheVariants as ask
-use Rattle.gh_base.specs.declared.layout.Layout.{Layout}
-use Rattle.gh_base.specs.declared.value.Value.{Value}
-use Rattle.gh_base.specs.declared.value.Value.TheVariants as value
 use Rattle.gh_base.specs.Footprints.{Footprint}
 use Rattle.gh_base.specs.Footprints as row
 use Rattle.gh_base.specs.Machines.{Listing}
 use Rattle.gh_stack.specs.Sound.{SoundStackScan}
-use Rattle.gh_stack.specs.declared.scan_stack.ScanStack.{ScanStack}
-use Rattle.gh_stack.specs.declared.scan_stack.StackStage.{StackStage}
-use Rattle.gh_stack.specs.declared.scan_stack.StackStage.TheVariants.{Shade, Store, Ended}
 
 -- the scan of a goroutine's stack in a cycle: the registers, and its stage
 abbrev pub StackScan : Type 0
@@ -21,9 +14,9 @@ StackScan = ScanStack
 -- the first of these registers, numbered from here on, that holds a reference; where none does, the store
 abbrev pub first_reference : (register : ℕ) → List Value → StackStage
 first_reference register [] = Store
-first_reference register (value.Ref reference ∷ values) = Shade register reference
-first_reference register (value.Nil ∷ values) = first_reference (register + 1) values
-first_reference register (value.Int n ∷ values) = first_reference (register + 1) values
+first_reference register (Value.Ref reference ∷ values) = Shade register reference
+first_reference register (Value.Nil ∷ values) = first_reference (register + 1) values
+first_reference register (Value.Int n ∷ values) = first_reference (register + 1) values
 
 -- so from this register on
 abbrev pub shade_stage_from : List Value → (register : ℕ) → StackStage
@@ -54,8 +47,8 @@ told_shaded s = at_stage s (after_shade s.registers s.stage)
 
 module _ (s : StackScan) where
   abbrev pub asks_at : StackStage → Ask
-  asks_at Store = ask.Store (Scanned s.goroutine) s.cycle
-  asks_at _ = ask.Load Touch
+  asks_at Store = Ask.Store (Scanned s.goroutine) s.cycle
+  asks_at _ = Ask.Load Touch
 
   abbrev pub goes_at : StackStage → StackScan
   goes_at (Shade register reference) = at_stage s (Shade register reference)

@@ -1,17 +1,15 @@
 -- What the scan of a stack does: the references of its registers are shaded, in order and each once, and then it makes its only step.
 use Rattle.std.specs.Prelude.{◌≡◌, ℕ, zero, suc, ◌<◌, true, false, List, [], ◌∷◌, length, slice_index, Some, None}
-use Rattle.gh_base.specs.declared.cell.Cell.TheVariants.{Scanned}
+use Rattle.gh_stack.specs.Vocabulary.{Scanned, Value}
 use Rattle.gh_base.specs.declared.cell.Ask.TheVariants.{Store}
-use Rattle.gh_base.specs.declared.value.Value.{Value}
-use Rattle.gh_base.specs.declared.value.Value.TheVariants as value
 use Rattle.gh_stack.specs.Listing.{asks, gives, goes, is_busy, opening, StackScan, told_shaded, wish_of}
 
 -- the references among these values, in their order
 abbrev pub references : List Value → List ℕ
 references [] = []
-references (value.Ref reference ∷ values) = reference ∷ references values
-references (value.Nil ∷ values) = references values
-references (value.Int n ∷ values) = references values
+references (Value.Ref reference ∷ values) = reference ∷ references values
+references (Value.Nil ∷ values) = references values
+references (Value.Int n ∷ values) = references values
 
 -- once it was told so many times that its wish is shaded
 abbrev pub shaded_times : StackScan → ℕ → StackScan

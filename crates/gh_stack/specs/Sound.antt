@@ -1,10 +1,6 @@
 -- What the scan of a stack knows of its own numbers, whatever it is told.
 use Rattle.std.specs.Prelude.{◌≡◌, ◌<◌, length}
-use Rattle.gh_base.specs.declared.layout.Layout.{Layout}
-use Rattle.gh_base.specs.declared.limits.TheConstants.{REGISTERS}
-use Rattle.gh_stack.specs.declared.scan_stack.ScanStack.{ScanStack}
-use Rattle.gh_stack.specs.declared.scan_stack.StackStage.{StackStage}
-use Rattle.gh_stack.specs.declared.scan_stack.StackStage.TheVariants.{Shade}
+use Rattle.gh_stack.specs.Vocabulary.{Layout, REGISTERS, ScanStack, Shade, StackStage}
 
 -- the register is one of the goroutine's
 abbrev pub SoundStage : StackStage → Type 0

@@ -1,28 +1,10 @@
 -- A cycle opens and ends; and what is told once all is swept.
 use Rattle.std.proofs.Common.{◌≡◌, ℕ, zero, suc, ◌+◌, ◌-◌, ◌/◌, ◌%◌, true, refl, sym, ap, subst, ◌∙◌, arith, inl, inr, Option, None}
-use Rattle.std.specs.Int.{bit_at}
 use Rattle.std.proofs.lemmas.Bool.{eq-eqb}
-use Rattle.std.proofs.lemmas.Bool.Decides.{eqb_tells}
-use Rattle.std.proofs.lemmas.Nat.Bits.{bit_at-zero}
-use Rattle.gh_base.specs.declared.cell.Cell.TheVariants as cell
-use Rattle.gh_base.specs.declared.pack.PageWord.{PageWord}
-use Rattle.gh_base.specs.declared.pack.PageWord.TheVariants.{Body, Free, Head}
-use Rattle.gh_base.specs.declared.pack.SpanHead.{SpanHead}
-use Rattle.gh_base.specs.declared.value.Name.{Name}
-use Rattle.gh_base.specs.Cells.{opening_words, seats_of, Words}
-use Rattle.gh_model.specs.Ever.{Reach}
-use Rattle.gh_base.specs.Packing.{page_of}
-use Rattle.gh_base.specs.Rows.{mark_words, row_bit, RowsAreWritten}
+use Rattle.gh_state.proofs.Vocabulary.{AllIsTold, Arena, AreSwept, bit_at, bit_at-zero, Body, By, Cell, cycle_ended, CycleEnd, CyclesEnd, CyclesOpen, Done, Due, end_of, EndsWell, eqb_tells, Far, Free, generation_of, Good, HasEnded, Head, HeapsOpen, InSpan, IsOver, left_uncut, mark_words, marks_at, Name, nothing_due, opening, opening_end, opening_words, Opens, owed, owner_in, page_of, PageWord, Reach, row_bit, RowsAreWritten, SaysFar, seats_of, seen_by_sweep, Shared, SpanHead, TheSweepIsTold, Told, Words}
 use Rattle.gh_heap.specs.Rights as rights
-use Rattle.gh_heap.specs.Rights.{Arena}
-use Rattle.gh_heap.specs.Spans.{owner_in}
-use Rattle.gh_sweep.specs.AtEnd.{EndsWell}
 use Rattle.gh_sweep.specs.Bits.{sum_below}
 use Rattle.gh_sweep.specs.Shared as spans
-use Rattle.gh_sweep.specs.Shared.{By, CycleEnd, Done, Due, Far, generation_of, HasEnded, InSpan, left_uncut, marks_at, nothing_due, owed, SaysFar}
-use Rattle.gh_state.specs.Cycles.{AllIsTold, AreSwept, cycle_ended, CyclesEnd, CyclesOpen, end_of, HeapsOpen, IsOver, opening, opening_end, Opens, TheSweepIsTold}
-use Rattle.gh_state.specs.Good.{Good}
-use Rattle.gh_state.specs.Shared.{seen_by_sweep, Shared, Told}
 use Rattle.gh_state.proofs.Beside.{no_word, zero_one}
 use Rattle.gh_state.proofs.Swept.{done_by}
 
@@ -68,8 +50,8 @@ module _ (e : CycleEnd) (v : spans.View) (g : spans.Good e v) (done : (p : ℕ) 
   none_left each n = grind (arith, all_cut, sum_none)
 
 all_done : (z : Arena) (s : Shared) → Good z s → AreSwept s → (p : ℕ) → s.far p ≡ Done
-all_done z s g swept p = go (page_of (s.heap.words (cell.Page p))) refl where
-  go : (w : PageWord) → page_of (s.heap.words (cell.Page p)) ≡ w → s.far p ≡ Done
+all_done z s g swept p = go (page_of (s.heap.words (Cell.Page p))) refl where
+  go : (w : PageWord) → page_of (s.heap.words (Cell.Page p)) ≡ w → s.far p ≡ Done
   go Free is = subst (λ (w : PageWord). SaysFar (generation_of s.end) w (s.far p)) is (g.sweep.numbers p)
   go (Head h) is = done_by (generation_of s.end) h (s.far p) (subst (λ (w : PageWord). SaysFar (generation_of s.end) w (s.far p)) is (g.sweep.numbers p)) (swept p h is ∙ g.sweep.generation)
   go (Body b) is = subst (λ (w : PageWord). SaysFar (generation_of s.end) w (s.far p)) is (g.sweep.numbers p)
@@ -151,13 +133,13 @@ module _ (k : Known) (z : Arena) (s : Shared) (g : Good z s) (o : IsOver s) wher
     nobody held = let none = o.none_held (h.owner - 1) p in absurd (cc (none, held))
 
   -- each span has the number of the generation that ends
-  number : (p : ℕ) (h : SpanHead) → page_of (v.page p) ≡ Head h → h.number ≡ s.heap.words cell.Gen
+  number : (p : ℕ) (h : SpanHead) → page_of (v.page p) ≡ Head h → h.number ≡ s.heap.words Cell.Gen
   number p h e = subst (λ (f : Far). SaysFar (generation_of s.end) (Head h) f) (done p) (subst (λ (w : PageWord). SaysFar (generation_of s.end) w (s.far p)) e (g.sweep.numbers p)) ∙ sym g.sweep.generation
 
   no_bits_outside : (i : ℕ) → (InSpan v.page i → ⊥) → v.alloc i ≡ 0
   no_bits_outside i out = elim (eqb_tells (v.alloc i) 0) [ inl y ↦ y.1 | inr n ↦ absurd (out (g.sweep.inside i n.1)) ]
 
-  no_marks_outside : (i : ℕ) → (InSpan v.page i → ⊥) → s.heap.words (cell.Mark i) ≡ 0
+  no_marks_outside : (i : ℕ) → (InSpan v.page i → ⊥) → s.heap.words (Cell.Mark i) ≡ 0
   no_marks_outside i out = no_word k.rows (mark_words s.heap.words) i (o.marks_fit i) (λ x at set.
       let stands : row_bit v.alloc x ≡ 1 = o.stand x set in
       let none : row_bit v.alloc x ≡ 0 = k.rows.bit_of v.alloc i x at ∙ ap (λ (n : ℕ). bit_at n (x % 64)) (no_bits_outside i out) ∙ bit_at-zero (x % 64) in

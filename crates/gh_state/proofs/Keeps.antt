@@ -1,30 +1,12 @@
 -- Each move keeps what holds at every moment.
 use Rattle.std.proofs.Common.{◌≡◌, ◌≢◌, ℕ, ◌+◌, ◌*◌, ◌/◌, ◌%◌, ◌<◌, Bool, true, false, refl, sym, ap, subst, ◌∙◌, arith, inl, inr, Option, None}
-use Rattle.std.specs.Int.{bit_at}
 use Rattle.std.proofs.lemmas.Bool.{le-ltb}
-use Rattle.std.proofs.lemmas.Bool.Decides.{eqb_tells}
-use Rattle.gh_base.specs.declared.cell.Ask.TheVariants as ask
-use Rattle.gh_base.specs.declared.cell.Cell.TheVariants as cell
-use Rattle.gh_base.specs.declared.layout.Layout.{Layout}
-use Rattle.gh_base.specs.declared.pack.PageWord.TheVariants.{Head}
-use Rattle.gh_base.specs.declared.pack.SpanHead.{SpanHead}
-use Rattle.gh_base.specs.declared.value.Name.{Name}
-use Rattle.gh_base.specs.Cells.{seats_of}
-use Rattle.gh_base.specs.Packing.{page_of}
-use Rattle.gh_model.specs.Ever.{Reach}
+use Rattle.gh_state.proofs.Vocabulary.{Arena, Ask, bit_at, By, Cell, Count, Deed, Done, EachMoveKeeps, eqb_tells, generation_of, Good, Head, in_sweep, IsKept, IsOfSweep, IsSpan, Layout, marks_at, May, MaySweep, moved, Name, page_of, Reach, ReachedAreMarked, SaysFar, seats_of, seen_by_sweep, Shared, SpanHead, Sweep, Told, update}
 use Rattle.gh_heap.specs.Moves as heap
-use Rattle.gh_heap.specs.Moves.{update}
 use Rattle.gh_heap.specs.Rights as rights
-use Rattle.gh_heap.specs.Rights.{Arena, IsKept}
-use Rattle.gh_heap.specs.Spans.{IsSpan}
-use Rattle.gh_sweep.specs.Listing.{bit_words, in_sweep}
+use Rattle.gh_sweep.specs.Listing.{bit_words}
 use Rattle.gh_sweep.specs.Moves as sweep
 use Rattle.gh_sweep.specs.Shared as spans
-use Rattle.gh_sweep.specs.Shared.{By, Done, generation_of, marks_at, SaysFar}
-use Rattle.gh_state.specs.Good.{Good, ReachedAreMarked}
-use Rattle.gh_state.specs.Laws.{EachMoveKeeps}
-use Rattle.gh_state.specs.Moves.{Count, Deed, IsOfSweep, May, MaySweep, moved, Sweep}
-use Rattle.gh_state.specs.Shared.{seen_by_sweep, Shared, Told}
 use Rattle.gh_state.proofs.Beside.{deed}
 use Rattle.gh_state.proofs.Known.{Known}
 
@@ -104,15 +86,15 @@ module _ (k : Known) (z : Arena) (a : ℕ) (was : Shared) (g : Good z (record wa
     uncut_here : s.cut j ≡ false
     uncut_here = may.1.are_cut i may.2 ∙ le-ltb i i (omega arith)
 
-    marks_here : s.heap.words (cell.Mark j) ≡ marks_at s.end j
+    marks_here : s.heap.words (Cell.Mark j) ≡ marks_at s.end j
     marks_here = g.sweep.marks j ∙ rw (may.1.are_clear i may.2 ∙ le-ltb i i (omega arith)) refl
 
-    stays : (n : Name) → Reach s.heap.ever n → s.heap.place n / 64 ≡ j → bit_at (s.heap.words (cell.Mark j)) (s.heap.place n % 64) ≡ 1
+    stays : (n : Name) → Reach s.heap.ever n → s.heap.place n / 64 ≡ j → bit_at (s.heap.words (Cell.Mark j)) (s.heap.place n % 64) ≡ 1
     stays n r at =
         let marked = g.reached n r (ap s.cut at ∙ uncut_here) in
         rw (marks_here) (sym (k.rows.bit_of (marks_at s.end) j (s.heap.place n) at) ∙ marked)
 
-    pub cuts_may : heap.MayThin z v j (s.heap.words (cell.Mark j))
+    pub cuts_may : heap.MayThin z v j (s.heap.words (Cell.Mark j))
     cuts_may =
         let is = g.sweep.generation in
         let n = swept_by p h i i may.1 in
@@ -131,14 +113,14 @@ module _ (k : Known) (z : Arena) (a : ℕ) (was : Shared) (g : Good z (record wa
         true_false q = cc
 
     cuts : Good z (moved z a s (Sweep (sweep.Cuts p h i)))
-    cuts = record { layout = g.layout; ended = g.ended; heap = (k.besides z s.heap (heap.Thin j (s.heap.words (cell.Mark j))) g.heap cuts_may).good; sweep = by (sweep.Cuts p h i) may; reached = reached_then; told = λ t is. absurd (cc is) }
+    cuts = record { layout = g.layout; ended = g.ended; heap = (k.besides z s.heap (heap.Thin j (s.heap.words (Cell.Mark j))) g.heap cuts_may).good; sweep = by (sweep.Cuts p h i) may; reached = reached_then; told = λ t is. absurd (cc is) }
 
   -- the heap reads none of the words
   plain : (m : sweep.Move) → rights.Good z (rights.view (moved z a s (Sweep m)).heap) → spans.Good s.end (spans.view (seen_by_sweep (moved z a s (Sweep m)))) → (moved z a s (Sweep m)).cut ≡ s.cut → Good z (moved z a s (Sweep m))
   plain m heap sweep same = record { layout = g.layout; ended = g.ended; heap = heap; sweep = sweep; reached = subst (λ (c : ℕ → Bool). ReachedAreMarked (marks_at s.end) c s.heap.place s.heap.ever) (sym same) g.reached; told = λ t is. absurd (cc is) }
 
   pub sweeps : (m : sweep.Move) → IsOfSweep m → sweep.May s.end a (seen_by_sweep s) m → Good z (moved z a s (Sweep m))
-  sweeps (sweep.Quiet (ask.Load c)) of may = plain (sweep.Quiet (ask.Load c)) g.heap g.sweep refl
+  sweeps (sweep.Quiet (Ask.Load c)) of may = plain (sweep.Quiet (Ask.Load c)) g.heap g.sweep refl
   sweeps (sweep.Starts p h) of may = starts p h may
   sweeps (sweep.Cuts p h i) of may = cuts p h i may
   sweeps (sweep.Clears p h i) of may = plain (sweep.Clears p h i) g.heap (by (sweep.Clears p h i) may) refl

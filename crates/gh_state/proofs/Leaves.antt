@@ -1,26 +1,11 @@
 -- What another's move leaves to a seat.
 use Rattle.std.proofs.Common.{◌≡◌, ◌≢◌, ℕ, ◌+◌, ◌*◌, ◌<◌, Bool, refl, sym, ap, subst, ◌∙◌, arith, inl, inr, Option, Some, None}
-use Rattle.gh_base.specs.declared.cell.Ask.{Ask}
-use Rattle.gh_base.specs.declared.cell.Ask.TheVariants as ask
-use Rattle.gh_base.specs.declared.cell.Cell.TheVariants as cell
-use Rattle.gh_base.specs.Cells.{seats_of}
-use Rattle.gh_base.specs.Packing.{body_word}
-use Rattle.gh_base.specs.Rows.{Row}
-use Rattle.gh_base.specs.Steps.{effect}
+use Rattle.gh_state.proofs.Vocabulary.{Arena, Ask, body_at, body_word, Cell, Count, CountsStay, CycleEnd, Deed, EachMoveLeaves, effect, Far, Good, IsOfSweep, marks_in, MayDeed, MaySweep, moved, Others, OthersLeave, Row, seats_of, seen_by_sweep, Shared, Sweep, Sweeps, Told}
 use Rattle.gh_heap.specs.Laws as laws
 use Rattle.gh_heap.specs.Moves as heap
 use Rattle.gh_heap.specs.Rights as rights
-use Rattle.gh_heap.specs.Rights.{Arena}
-use Rattle.gh_heap.specs.Spans.{body_at}
 use Rattle.gh_sweep.specs.Facts.{HasNotNumber}
 use Rattle.gh_sweep.specs.Moves as sweep
-use Rattle.gh_sweep.specs.Moves.{OthersLeave}
-use Rattle.gh_sweep.specs.Shared.{CycleEnd, Far}
-use Rattle.gh_sweep.specs.Shared.{Shared as Sweeps}
-use Rattle.gh_state.specs.Good.{Good}
-use Rattle.gh_state.specs.Laws.{EachMoveLeaves}
-use Rattle.gh_state.specs.Moves.{Count, CountsStay, Deed, IsOfSweep, MayDeed, MaySweep, moved, Others, Sweep}
-use Rattle.gh_state.specs.Shared.{marks_in, seen_by_sweep, Shared, Told}
 use Rattle.gh_state.proofs.Beside as beside
 use Rattle.gh_state.proofs.Keeps as keeps
 use Rattle.gh_state.proofs.Known.{Known}
@@ -33,9 +18,9 @@ pub record Lasting : Type 0 where
 
 -- Two states whose rows read the same.
 record Same (a : ℕ) (t u : Sweeps) : Type 0 where
-  pages : (p : ℕ) → u.words (cell.Page p) ≡ t.words (cell.Page p)
-  alloc : (i : ℕ) → u.words (cell.Alloc i) ≡ t.words (cell.Alloc i)
-  marks : (i : ℕ) → u.words (cell.Mark i) ≡ t.words (cell.Mark i)
+  pages : (p : ℕ) → u.words (Cell.Page p) ≡ t.words (Cell.Page p)
+  alloc : (i : ℕ) → u.words (Cell.Alloc i) ≡ t.words (Cell.Alloc i)
+  marks : (i : ℕ) → u.words (Cell.Mark i) ≡ t.words (Cell.Mark i)
   far : u.far ≡ t.far
   cut : u.cut ≡ t.cut
   clear : u.clear ≡ t.clear
@@ -87,7 +72,7 @@ module _ (k : Known) (l : Lasting) (z : Arena) (a b : ℕ) (s : Shared) (ne : a 
     due = refl;
     pend = refl;
   }) where
-    marks : (i : ℕ) (x : Option Told) → s.told ≡ x → marks_in x (effect s.heap.words step (cell.Mark i)) ≡ marks_in x (s.heap.words (cell.Mark i))
+    marks : (i : ℕ) (x : Option Told) → s.told ≡ x → marks_in x (effect s.heap.words step (Cell.Mark i)) ≡ marks_in x (s.heap.words (Cell.Mark i))
     marks i (Some t) e = refl
     marks i None e = c.marks e i
 
@@ -98,7 +83,7 @@ module _ (k : Known) (l : Lasting) (z : Arena) (a b : ℕ) (s : Shared) (ne : a 
   others : (m : heap.Move) → MayDeed z b s m → Left m → Others z a s (moved z b s (Deed m))
   others m may left = record { end = refl; told = refl; heap = l.heap z a b s.heap m ne g.heap may.may; sweep = left }
 
-  same : {t u : Sweeps} → ((p : ℕ) → u.words (cell.Page p) ≡ t.words (cell.Page p)) → ((i : ℕ) → u.words (cell.Alloc i) ≡ t.words (cell.Alloc i)) → ((i : ℕ) → u.words (cell.Mark i) ≡ t.words (cell.Mark i)) → u.far ≡ t.far → u.cut ≡ t.cut → u.clear ≡ t.clear → u.due ≡ t.due → u.pend a ≡ t.pend a → Same a t u
+  same : {t u : Sweeps} → ((p : ℕ) → u.words (Cell.Page p) ≡ t.words (Cell.Page p)) → ((i : ℕ) → u.words (Cell.Alloc i) ≡ t.words (Cell.Alloc i)) → ((i : ℕ) → u.words (Cell.Mark i) ≡ t.words (Cell.Mark i)) → u.far ≡ t.far → u.cut ≡ t.cut → u.clear ≡ t.clear → u.due ≡ t.due → u.pend a ≡ t.pend a → Same a t u
   same pages alloc marks far cut clear due pend = grind arith
 
   pub deeds : (m : heap.Move) → MayDeed z b s m → Others z a s (moved z b s (Deed m))
@@ -124,7 +109,7 @@ module _ (k : Known) (l : Lasting) (z : Arena) (a b : ℕ) (s : Shared) (ne : a 
 
   -- what the heap leaves where nothing of it changes
   heap_rests : heap.Others z a v v
-  heap_rests = l.heap z a b s.heap (heap.Quiet (ask.Load cell.Touch)) ne g.heap tt
+  heap_rests = l.heap z a b s.heap (heap.Quiet (Ask.Load Cell.Touch)) ne g.heap tt
 
   pub counts : b < seats_of z.layout → Others z a s (moved z b s Count)
   counts may = grind arith
@@ -137,13 +122,13 @@ module _ (k : Known) (l : Lasting) (z : Arena) (a b : ℕ) (was : Shared) (ne : 
   moves : (m : sweep.Move) → sweep.May q.end b (seen_by_sweep q) m → heap.Others z a (rights.view q.heap) (rights.view (moved z b q (Sweep m)).heap) → Same a (sweep.moved b (seen_by_sweep q) m) (seen_by_sweep (moved z b q (Sweep m))) → Others z a q (moved z b q (Sweep m))
   moves m may heap r = record { end = refl; told = refl; heap = heap; sweep = as_rows q.end a (seen_by_sweep q) (sweep.moved b (seen_by_sweep q) m) _ (l.sweep q.end a b (seen_by_sweep q) m ne g.ended g.sweep may) r }
 
-  rows : {t u : Sweeps} → ((p : ℕ) → u.words (cell.Page p) ≡ t.words (cell.Page p)) → ((i : ℕ) → u.words (cell.Alloc i) ≡ t.words (cell.Alloc i)) → ((i : ℕ) → u.words (cell.Mark i) ≡ t.words (cell.Mark i)) → u.far ≡ t.far → u.cut ≡ t.cut → u.clear ≡ t.clear → u.due ≡ t.due → u.pend a ≡ t.pend a → Same a t u
+  rows : {t u : Sweeps} → ((p : ℕ) → u.words (Cell.Page p) ≡ t.words (Cell.Page p)) → ((i : ℕ) → u.words (Cell.Alloc i) ≡ t.words (Cell.Alloc i)) → ((i : ℕ) → u.words (Cell.Mark i) ≡ t.words (Cell.Mark i)) → u.far ≡ t.far → u.cut ≡ t.cut → u.clear ≡ t.clear → u.due ≡ t.due → u.pend a ≡ t.pend a → Same a t u
   rows pages alloc marks far cut clear due pend = grind arith
 
   pub sweeps : (m : sweep.Move) → IsOfSweep m → sweep.May q.end b (seen_by_sweep q) m → Others z a q (moved z b q (Sweep m))
-  sweeps (sweep.Quiet (ask.Load c)) of may = moves (sweep.Quiet (ask.Load c)) may (heap_rests k l z a b q ne g) (rows (λ p. refl) (λ i. refl) (λ i. refl) refl refl refl refl refl)
+  sweeps (sweep.Quiet (Ask.Load c)) of may = moves (sweep.Quiet (Ask.Load c)) may (heap_rests k l z a b q ne g) (rows (λ p. refl) (λ i. refl) (λ i. refl) refl refl refl refl refl)
   sweeps (sweep.Starts p h) of may = moves (sweep.Starts p h) may ((k.besides z q.heap (heap.Renumber p h (h.number + 1)) g.heap (keeps.starts_may k z b was g p h may)).others a) (rows (λ p. refl) (λ i. refl) (λ i. refl) refl refl refl refl refl)
-  sweeps (sweep.Cuts p h i) of may = moves (sweep.Cuts p h i) may ((k.besides z q.heap (heap.Thin (16 * p + i) (q.heap.words (cell.Mark (16 * p + i)))) g.heap (keeps.cuts_may k z b was g p h i may)).others a) (rows (λ p. refl) (λ i. refl) (λ i. refl) refl refl refl refl refl)
+  sweeps (sweep.Cuts p h i) of may = moves (sweep.Cuts p h i) may ((k.besides z q.heap (heap.Thin (16 * p + i) (q.heap.words (Cell.Mark (16 * p + i)))) g.heap (keeps.cuts_may k z b was g p h i may)).others a) (rows (λ p. refl) (λ i. refl) (λ i. refl) refl refl refl refl refl)
   sweeps (sweep.Clears p h i) of may = moves (sweep.Clears p h i) may (heap_rests k l z a b q ne g) (rows (λ p. refl) (λ i. refl) (λ i. refl) refl refl refl refl refl)
   sweeps sweep.TellsTally of may = moves sweep.TellsTally may (heap_rests k l z a b q ne g) (rows (λ p. refl) (λ i. refl) (λ i. refl) refl refl refl refl refl)
   sweeps sweep.TellsLive of may = moves sweep.TellsLive may (heap_rests k l z a b q ne g) (rows (λ p. refl) (λ i. refl) (λ i. refl) refl refl refl refl refl)

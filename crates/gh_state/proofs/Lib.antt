@@ -10,3 +10,4 @@ mod SweepsLeave
 mod Walkers
 mod Slots
 mod Told
+pub mod Vocabulary

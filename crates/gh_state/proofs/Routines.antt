@@ -1,24 +1,10 @@
 -- A sweep over the one state.
 use Rattle.std.proofs.Common.{◌≡◌, ℕ, ◌+◌, ◌*◌, ◌<◌, true, refl, sym, subst, ◌∙◌, Option, None, arith}
-use Rattle.gh_base.specs.declared.cell.Cell.TheVariants as cell
-use Rattle.gh_base.specs.declared.layout.Layout.{Layout}
-use Rattle.gh_base.specs.declared.pack.PageWord.TheVariants.{Head}
-use Rattle.gh_base.specs.declared.pack.SpanHead.{SpanHead}
-use Rattle.gh_base.specs.Cells.{seats_of}
-use Rattle.gh_base.specs.Packing.{page_of}
-use Rattle.gh_base.specs.Steps.{cell_of, effect}
-use Rattle.gh_heap.specs.Rights.{Arena}
-use Rattle.gh_sweep.specs.Listing.{asks, goes, is_busy, opening, Sweeping}
+use Rattle.gh_state.proofs.Vocabulary.{Arena, asks, Cell, cell_of, effect, generation_of, goes, GoesOn, Good, Head, is_busy, IsOfSweep, Layout, marks_in, May, Others, OthersLeave, page_of, seats_of, SeatSweepsNothing, seen_by_sweep, Shared, SpanHead, Sweep, sweep_over, Sweeping, SweepRuns, Sweeps, SweepsByTheState, SweepsLeave, Told}
+use Rattle.gh_sweep.specs.Listing.{opening}
 use Rattle.gh_sweep.specs.Moves as sweep
-use Rattle.gh_sweep.specs.Moves.{OthersLeave}
 use Rattle.gh_sweep.specs.Shared as spans
-use Rattle.gh_sweep.specs.Shared.{generation_of}
-use Rattle.gh_sweep.specs.Shared.{Shared as Sweeps}
 use Rattle.gh_sweep.specs.Sweepers.{move_of, SweepFacts, SweepsAmongOthers}
-use Rattle.gh_state.specs.Good.{Good}
-use Rattle.gh_state.specs.Moves.{IsOfSweep, May, Others, Sweep}
-use Rattle.gh_state.specs.Routines.{GoesOn, SeatSweepsNothing, SweepRuns, SweepsByTheState, SweepsLeave}
-use Rattle.gh_state.specs.Shared.{marks_in, seen_by_sweep, Shared, sweep_over, Told}
 
 -- the moves of a sweep
 
@@ -71,7 +57,7 @@ unhushed a s t is then o = record {
   due = o.due;
   pend = o.pend;
 } where
-  marks : (i : ℕ) (b c : Option Told) → b ≡ None → c ≡ None → marks_in c (t.heap.words (cell.Mark i)) ≡ marks_in b (s.heap.words (cell.Mark i)) → t.heap.words (cell.Mark i) ≡ s.heap.words (cell.Mark i)
+  marks : (i : ℕ) (b c : Option Told) → b ≡ None → c ≡ None → marks_in c (t.heap.words (Cell.Mark i)) ≡ marks_in b (s.heap.words (Cell.Mark i)) → t.heap.words (Cell.Mark i) ≡ s.heap.words (Cell.Mark i)
   marks i b c e f same = grind arith
 
 last_here : SweepsAmongOthers → (z : Arena) (a : ℕ) (s t : Shared) (m : Sweeping) → Others z a s t → SweepRuns a s m → SweepRuns a t m
@@ -86,7 +72,7 @@ sweeps k leave = record {
   last = last_here k;
   rests = λ a s m r busy. k.rests s.end a (sweep_over s s.heap.words) m r.fine busy;
 } where
-  opens_here : (z : Arena) (a : ℕ) (s : Shared) (p : ℕ) (h : SpanHead) → Good z s → s.told ≡ None → SeatSweepsNothing a s → page_of (s.heap.words (cell.Page p)) ≡ Head h → h.number + 2 ≡ generation_of s.end → SweepFacts s.end a (sweep_over s s.heap.words) (opening p h)
+  opens_here : (z : Arena) (a : ℕ) (s : Shared) (p : ℕ) (h : SpanHead) → Good z s → s.told ≡ None → SeatSweepsNothing a s → page_of (s.heap.words (Cell.Page p)) ≡ Head h → h.number + 2 ≡ generation_of s.end → SweepFacts s.end a (sweep_over s s.heap.words) (opening p h)
   opens_here z a s p h g quiet rests head number =
       subst (λ (b : Option Told). Good z (record s { told = b }) → SweepFacts s.end a (sweep_over s s.heap.words) (opening p h)) (sym quiet)
       (λ good. k.opens s.end a (sweep_over s s.heap.words) p h good.ended (raw_good z a s good) rests head number) g

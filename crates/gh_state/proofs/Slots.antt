@@ -1,11 +1,6 @@
 -- Page words tell the bytes of slots.
 use Rattle.std.proofs.Common.{◌≡◌, ℕ, ◌+◌, ◌-◌, ◌/◌, ap, ◌∙◌, arith, inl, inr}
-use Rattle.std.proofs.lemmas.Bool.Decides.{eqb_tells}
-use Rattle.gh_base.specs.declared.pack.PageWord.{PageWord}
-use Rattle.gh_base.specs.declared.pack.PageWord.TheVariants.{Body}
-use Rattle.gh_base.specs.Packing.{page_of}
-use Rattle.gh_heap.specs.Spans.{body_at}
-use Rattle.gh_state.specs.Slots.{bytes_at, bytes_at_head, SlotsAreRead}
+use Rattle.gh_state.proofs.Vocabulary.{Body, body_at, bytes_at, bytes_at_head, eqb_tells, page_of, PageWord, SlotsAreRead}
 
 pub slots_read : SlotsAreRead
 slots_read pages page i s span = elim (eqb_tells (i / 16) s.p) [

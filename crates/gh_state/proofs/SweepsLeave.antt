@@ -1,22 +1,11 @@
 -- What a step of a sweep leaves to who runs it.
 use Rattle.std.proofs.Common.{◌≡◌, ◌≢◌, ℕ, ◌+◌, ◌*◌, refl, sym, ap, subst, ◌∙◌, arith, inl, inr, Option, None}
-use Rattle.std.proofs.lemmas.Bool.Decides.{eqb_tells}
-use Rattle.gh_base.specs.declared.cell.Ask.TheVariants as ask
-use Rattle.gh_base.specs.declared.cell.Cell.TheVariants as cell
-use Rattle.gh_base.specs.declared.pack.PageWord.TheVariants.{Head}
-use Rattle.gh_base.specs.declared.pack.SpanHead.{SpanHead}
-use Rattle.gh_base.specs.Packing.{head_word, page_of}
+use Rattle.gh_state.proofs.Vocabulary.{Arena, Ask, Cell, eqb_tells, Good, Head, head_word, IsOfSweep, Leaves, MaySweep, moved, numbered_by, page_of, seen_by_sweep, Shared, SpanHead, Sweep, SweepKeeps, SweepsLeave, Told}
 use Rattle.gh_heap.specs.Laws as laws
 use Rattle.gh_heap.specs.Moves as heap
-use Rattle.gh_heap.specs.Moves.{Leaves}
 use Rattle.gh_heap.specs.Rights as rights
-use Rattle.gh_heap.specs.Rights.{Arena, View}
-use Rattle.gh_heap.specs.Spans.{numbered_by}
+use Rattle.gh_heap.specs.Rights.{View}
 use Rattle.gh_sweep.specs.Moves as sweep
-use Rattle.gh_state.specs.Good.{Good}
-use Rattle.gh_state.specs.Moves.{IsOfSweep, MaySweep, moved, Sweep}
-use Rattle.gh_state.specs.Routines.{SweepKeeps, SweepsLeave}
-use Rattle.gh_state.specs.Shared.{seen_by_sweep, Shared, Told}
 use Rattle.gh_state.proofs.Keeps as keeps
 use Rattle.gh_state.proofs.Known.{Known}
 
@@ -82,7 +71,7 @@ module _ (k : Known) (own : laws.EachOwnMoveLeaves) (z : Arena) (a : ℕ) (was :
           k.packed.page (Head (numbered_by number h)) (record { class = f.fits.class; some = f.fits.some; pages = omega (arith, most.1); owner = omega (arith, may.owner); number = omega arith })
 
   leaves_here : (m : sweep.Move) → IsOfSweep m → sweep.May q.end a (seen_by_sweep q) m → SweepKeeps q (moved z a q (Sweep m))
-  leaves_here (sweep.Quiet (ask.Load c)) of may = same (sweep.Quiet (ask.Load c)) refl refl
+  leaves_here (sweep.Quiet (Ask.Load c)) of may = same (sweep.Quiet (Ask.Load c)) refl refl
   leaves_here (sweep.Starts p h) of may = renumbered p h (h.number + 1) (keeps.starts_may k z a was g p h may) _ refl refl
   leaves_here (sweep.Cuts p h i) of may = record {
     locked = refl;
@@ -91,7 +80,7 @@ module _ (k : Known) (own : laws.EachOwnMoveLeaves) (z : Arena) (a : ℕ) (was :
     freeing = refl;
     place = refl;
     ever = refl;
-    leaves = (k.besides z q.heap (heap.Thin (16 * p + i) (q.heap.words (cell.Mark (16 * p + i)))) g.heap (keeps.cuts_may k z a was g p h i may)).leaves;
+    leaves = (k.besides z q.heap (heap.Thin (16 * p + i) (q.heap.words (Cell.Mark (16 * p + i)))) g.heap (keeps.cuts_may k z a was g p h i may)).leaves;
     owned = λ x f some e. e;
     stands = λ x f none e. (f.number, e);
   }

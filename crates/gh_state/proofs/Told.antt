@@ -1,23 +1,7 @@
 -- What the counts tell where nothing was laid out and nothing made since the cycle ended.
-use Rattle.std.proofs.Common.{◌≡◌, ℕ, ◌+◌, ◌*◌, ◌/◌, ◌%◌, ◌<◌, min, sym, ap, ◌∙◌, arith, inl, inr, None}
-use Rattle.std.specs.Int.{bit_at}
-use Rattle.std.specs.Prelude.{bit_and, count_ones}
-use Rattle.std.proofs.lemmas.Bool.Decides.{eqb_tells}
+use Rattle.std.proofs.Common.{◌≡◌, ℕ, ◌+◌, ◌*◌, ◌/◌, ◌%◌, ◌<◌, min, sym, ap, ◌∙◌, arith, inl, inr, None, bit_and, count_ones}
 use Rattle.std.proofs.lemmas.Nat.{and_le_l, ones_le_self}
-use Rattle.std.proofs.lemmas.Nat.Bits.{bit_at_and, bit_at-lt, same_from_bits_below}
-use Rattle.gh_base.specs.declared.cell.Cell.TheVariants as cell
-use Rattle.gh_base.specs.declared.pack.PageWord.TheVariants.{Head}
-use Rattle.gh_base.specs.declared.pack.SpanHead.{SpanHead}
-use Rattle.gh_base.specs.Packing.{page_of}
-use Rattle.gh_base.specs.Rows.{alloc_words, page_words, Row, row_bit, RowsAreWritten}
-use Rattle.gh_heap.specs.Rights.{Arena}
-use Rattle.gh_heap.specs.Spans.{IsSpan}
-use Rattle.gh_sweep.specs.AtEnd.{BitsAreObjects, TheBitsAreObjects}
-use Rattle.gh_sweep.specs.Shared.{alloc_at, InSpan, live_at, marks_at, placed_in}
-use Rattle.gh_state.specs.Cycles.{AllIsTold, AreSwept, CountsAreExact, CountsAreTold, IsAsItEnded, TheSweepIsTold}
-use Rattle.gh_state.specs.Good.{Good}
-use Rattle.gh_state.specs.Shared.{Shared}
-use Rattle.gh_state.specs.Slots.{slot_row, SlotsAreRead}
+use Rattle.gh_state.proofs.Vocabulary.{AllIsTold, alloc_at, alloc_words, Arena, AreSwept, bit_at, bit_at-lt, bit_at_and, BitsAreObjects, Cell, CountsAreExact, CountsAreTold, eqb_tells, Good, Head, InSpan, IsAsItEnded, IsSpan, live_at, marks_at, page_of, page_words, placed_in, Row, row_bit, RowsAreWritten, same_from_bits_below, Shared, slot_row, SlotsAreRead, SpanHead, TheBitsAreObjects, TheSweepIsTold}
 use Rattle.gh_state.proofs.Cycles.{sum_same}
 
 pub record Known : Type 0 where
@@ -72,25 +56,25 @@ module _ (k : Known) (z : Arena) (s : Shared) (g : Good z s) (none : s.told ≡ 
       let stood : bit_at (alloc_at s.end i) j ≡ 1 = bit_in_word k.rows (alloc_at s.end) i j low ∙ g.ended.stand (64 * i + j) (sym (bit_in_word k.rows (marks_at s.end) i j low) ∙ is) in
       omega (arith, is, both, stood))
 
-  same_word : (i : ℕ) → bit_and (alloc_at s.end i) (marks_at s.end i) ≡ s.heap.words (cell.Alloc i)
-  same_word i = same_from_bits_below 64 (bit_and (alloc_at s.end i) (marks_at s.end i)) (s.heap.words (cell.Alloc i)) (let l = g.ended.alloc_fits i in omega (arith, l, and_le_l (alloc_at s.end i) (marks_at s.end i))) (g.sweep.fits i) (λ j low.
+  same_word : (i : ℕ) → bit_and (alloc_at s.end i) (marks_at s.end i) ≡ s.heap.words (Cell.Alloc i)
+  same_word i = same_from_bits_below 64 (bit_and (alloc_at s.end i) (marks_at s.end i)) (s.heap.words (Cell.Alloc i)) (let l = g.ended.alloc_fits i in omega (arith, l, and_le_l (alloc_at s.end i) (marks_at s.end i))) (g.sweep.fits i) (λ j low.
       both_marked i j low
-      ∙ same_bit (bit_at (marks_at s.end i) j) (bit_at (s.heap.words (cell.Alloc i)) j) (bit_at-lt (marks_at s.end i) j) (bit_at-lt (s.heap.words (cell.Alloc i)) j)
+      ∙ same_bit (bit_at (marks_at s.end i) j) (bit_at (s.heap.words (Cell.Alloc i)) j) (bit_at-lt (marks_at s.end i) j) (bit_at-lt (s.heap.words (Cell.Alloc i)) j)
       (λ is. bit_in_word k.rows (alloc_words s.heap.words) i j low ∙ marked_stands (64 * i + j) (sym (bit_in_word k.rows (marks_at s.end) i j low) ∙ is))
       (λ is. bit_in_word k.rows (marks_at s.end) i j low ∙ stands_marked (64 * i + j) (sym (bit_in_word k.rows (alloc_words s.heap.words) i j low) ∙ is)))
 
   -- Page words tell the bytes of their slots.
 
-  whole : (p : ℕ) (h : SpanHead) → page_of (s.heap.words (cell.Page p)) ≡ Head h → IsSpan z.layout.pages (page_words s.heap.words) p h
+  whole : (p : ℕ) (h : SpanHead) → page_of (s.heap.words (Cell.Page p)) ≡ Head h → IsSpan z.layout.pages (page_words s.heap.words) p h
   whole p h is = g.heap.whole p h is (λ a y freed same. let free = was.none_freed a in absurd (cc (free, freed)))
 
   same_slot : (i : ℕ) → InSpan (page_words s.heap.words) i → s.slot i ≡ slot_row (page_words s.heap.words) i
   same_slot i c = g.sweep.slots i c ∙ sym (k.read z.layout.pages (page_words s.heap.words) i c (whole c.p c.h c.head))
 
   same_bytes : (i : ℕ) → placed_in (alloc_words s.heap.words) s.slot i ≡ placed_in (alloc_words s.heap.words) (slot_row (page_words s.heap.words)) i
-  same_bytes i = elim (eqb_tells (s.heap.words (cell.Alloc i)) 0) [
-    | inl y ↦ no_bytes (s.heap.words (cell.Alloc i)) (s.slot i) y.1 ∙ sym (no_bytes (s.heap.words (cell.Alloc i)) (slot_row (page_words s.heap.words) i) y.1)
-    | inr n ↦ ap (λ (x : ℕ). count_ones (s.heap.words (cell.Alloc i)) * x) (same_slot i (g.sweep.inside i n.1))
+  same_bytes i = elim (eqb_tells (s.heap.words (Cell.Alloc i)) 0) [
+    | inl y ↦ no_bytes (s.heap.words (Cell.Alloc i)) (s.slot i) y.1 ∙ sym (no_bytes (s.heap.words (Cell.Alloc i)) (slot_row (page_words s.heap.words) i) y.1)
+    | inr n ↦ ap (λ (x : ℕ). count_ones (s.heap.words (Cell.Alloc i)) * x) (same_slot i (g.sweep.inside i n.1))
   ]
 
   kept_bytes : (i : ℕ) → live_at s.end i ≡ placed_in (alloc_words s.heap.words) (slot_row (page_words s.heap.words)) i

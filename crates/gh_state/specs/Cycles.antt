@@ -1,36 +1,27 @@
 -- Where a cycle opens and where it ends, as changes of the one state; and what the state says once all spans are swept.
 use Rattle.std.specs.Prelude.{◌≡◌, ℕ, ◌+◌, ◌*◌, ◌^◌, ◌<◌, true, false, Some, None}
-use Rattle.gh_base.specs.declared.cell.Cell.TheVariants as cell
+use Rattle.gh_state.specs.Vocabulary.{alloc_at, alloc_words, Arena, bit_words_of, Cell, CycleEnd, freed_at, Head, in_all, kept_at, live_at, mark_words, marks_at, Name, opening_words, page_of, page_words, placed, put, Reach, row_bit, seats_of, SpanHead, StandGood, tally_of, Words}
 use Rattle.gh_base.specs.declared.layout.Layout.{Layout}
-use Rattle.gh_base.specs.declared.pack.PageWord.TheVariants.{Head}
-use Rattle.gh_base.specs.declared.pack.SpanHead.{SpanHead}
-use Rattle.gh_base.specs.declared.value.Name.{Name}
-use Rattle.gh_base.specs.Cells.{opening_words, put, seats_of, Words}
-use Rattle.gh_base.specs.Packing.{page_of, tally_of}
-use Rattle.gh_base.specs.Rows.{alloc_words, mark_words, page_words, row_bit}
-use Rattle.gh_model.specs.Ever.{Reach}
 use Rattle.gh_heap.specs.Rights as rights
-use Rattle.gh_heap.specs.Rights.{Arena}
 use Rattle.gh_sweep.specs.AtEnd.{at_end}
 use Rattle.gh_sweep.specs.Bits.{sum_below}
 use Rattle.gh_sweep.specs.Counts.{AreWords, is_set, marked_objects, unmarked_objects}
-use Rattle.gh_sweep.specs.Shared.{alloc_at, bit_words_of, CycleEnd, freed_at, in_all, kept_at, live_at, marks_at, placed, StandGood}
 use Rattle.gh_state.specs.Good.{Good}
 use Rattle.gh_state.specs.Shared.{Shared, Told}
 use Rattle.gh_state.specs.Slots.{slot_row}
 
 -- each head has the number of the sweep generation
 abbrev pub AreSwept : Shared → Type 0
-AreSwept s = (p : ℕ) (h : SpanHead) → page_of (s.heap.words (cell.Page p)) ≡ Head h → h.number ≡ s.heap.words cell.Gen
+AreSwept s = (p : ℕ) (h : SpanHead) → page_of (s.heap.words (Cell.Page p)) ≡ Head h → h.number ≡ s.heap.words Cell.Gen
 
 -- The opening. No word changes: from here on marks are not a sweep's, and the counts may be cleared.
 abbrev pub opened : Shared → Shared
-opened s = record s { told = Some (record { tally = s.heap.words cell.Tally; live = s.heap.words cell.Live }) }
+opened s = record s { told = Some (record { tally = s.heap.words Cell.Tally; live = s.heap.words Cell.Live }) }
 
 pub record Opens (z : Arena) (s : Shared) : Type 0 where
   pub good : Good z (opened s)
   -- no mark is set
-  pub marks : (i : ℕ) → s.heap.words (cell.Mark i) ≡ 0
+  pub marks : (i : ℕ) → s.heap.words (Cell.Mark i) ≡ 0
 
 abbrev pub CyclesOpen : Type 0
 CyclesOpen = (z : Arena) (s : Shared) → Good z s → s.told ≡ None → AreSwept s → Opens z s
@@ -46,13 +37,13 @@ pub record IsOver (s : Shared) : Type 0 where
   pub stand : StandGood (mark_words s.heap.words) (alloc_words s.heap.words)
   pub marks_fit : AreWords (mark_words s.heap.words)
   pub reached : (n : Name) → Reach s.heap.ever n → row_bit (mark_words s.heap.words) (s.heap.place n) ≡ 1
-  pub tally : s.heap.words cell.Tally ≡ 0
-  pub live : s.heap.words cell.Live ≡ 0
-  pub room : s.heap.words cell.Gen + 2 < 2 ^ 34
+  pub tally : s.heap.words Cell.Tally ≡ 0
+  pub live : s.heap.words Cell.Live ≡ 0
+  pub room : s.heap.words Cell.Gen + 2 < 2 ^ 34
 
 -- the words once the next sweep generation is stored
 abbrev pub next_words : Words → Words
-next_words words = put words cell.Gen (words cell.Gen + 2)
+next_words words = put words Cell.Gen (words Cell.Gen + 2)
 
 -- the objects of since are those that are marked then
 abbrev pub end_of : Shared → CycleEnd
@@ -83,21 +74,21 @@ HeapsOpen = (z : Arena) (h : rights.Shared) (trigger : ℕ) → rights.Good z (r
 pub record AllIsTold (s : Shared) : Type 0 where
   -- only objects of since stand, and no mark is set
   pub objects : (x : ℕ) → row_bit (alloc_words s.heap.words) x ≡ 1 → s.since x ≡ true
-  pub marks : (i : ℕ) → s.heap.words (cell.Mark i) ≡ 0
+  pub marks : (i : ℕ) → s.heap.words (Cell.Mark i) ≡ 0
   -- the counts are those where the cycle ended, whatever was placed since
-  pub marked : (tally_of (s.heap.words cell.Tally)).marked ≡ in_all s.end (kept_at s.end)
-  pub freed : (tally_of (s.heap.words cell.Tally)).freed ≡ in_all s.end (freed_at s.end)
-  pub live : s.heap.words cell.Live ≡ in_all s.end (live_at s.end)
-  pub heap : s.heap.words cell.Heap + sum_below s.pend (seats_of s.end.layout) ≡ placed (alloc_words s.heap.words) s.slot (bit_words_of s.end)
+  pub marked : (tally_of (s.heap.words Cell.Tally)).marked ≡ in_all s.end (kept_at s.end)
+  pub freed : (tally_of (s.heap.words Cell.Tally)).freed ≡ in_all s.end (freed_at s.end)
+  pub live : s.heap.words Cell.Live ≡ in_all s.end (live_at s.end)
+  pub heap : s.heap.words Cell.Heap + sum_below s.pend (seats_of s.end.layout) ≡ placed (alloc_words s.heap.words) s.slot (bit_words_of s.end)
 
 abbrev pub TheSweepIsTold : Type 0
 TheSweepIsTold = (z : Arena) (s : Shared) → Good z s → s.told ≡ None → AreSwept s → AllIsTold s
 
 -- The counts once all is swept: the objects that were marked where the cycle ended and those that were not, and the bytes of the slots that are taken.
 pub record CountsAreExact (e : CycleEnd) (words : Words) : Type 0 where
-  pub marked : (tally_of (words cell.Tally)).marked ≡ marked_objects (alloc_at e) (marks_at e) 0 e.layout.pages
-  pub freed : (tally_of (words cell.Tally)).freed ≡ unmarked_objects (alloc_at e) (marks_at e) 0 e.layout.pages
-  pub live : words cell.Live ≡ placed (alloc_words words) (slot_row (page_words words)) (16 * e.layout.pages)
+  pub marked : (tally_of (words Cell.Tally)).marked ≡ marked_objects (alloc_at e) (marks_at e) 0 e.layout.pages
+  pub freed : (tally_of (words Cell.Tally)).freed ≡ unmarked_objects (alloc_at e) (marks_at e) 0 e.layout.pages
+  pub live : words Cell.Live ≡ placed (alloc_words words) (slot_row (page_words words)) (16 * e.layout.pages)
 
 -- nothing was laid out and nothing made since the cycle ended, and nobody frees the pages of a span
 pub record IsAsItEnded (s : Shared) : Type 0 where

@@ -6,3 +6,4 @@ pub mod Routines
 pub mod Cycles
 pub mod Walkers
 pub mod Slots
+pub mod Vocabulary

@@ -1,14 +1,9 @@
 -- The moves of the one state: those over the heap, those of a sweep, and the count of what was placed.
 use Rattle.std.specs.Prelude.{◌≡◌, ℕ, ◌+◌, ◌/◌, ◌%◌, ◌^◌, ◌<◌, Bool, true, Option, None}
+use Rattle.gh_state.specs.Vocabulary.{Arena, Cell, put, Row, seats_of, update, with_word, Words}
 use Rattle.gh_base.specs.declared.cell.Ask.{Ask}
-use Rattle.gh_base.specs.declared.cell.Ask.TheVariants as ask
-use Rattle.gh_base.specs.declared.cell.Cell.TheVariants as cell
-use Rattle.gh_base.specs.Cells.{put, seats_of, Words}
-use Rattle.gh_base.specs.Rows.{Row, with_word}
 use Rattle.gh_heap.specs.Moves as heap
-use Rattle.gh_heap.specs.Moves.{update}
 use Rattle.gh_heap.specs.Rights as rights
-use Rattle.gh_heap.specs.Rights.{Arena}
 use Rattle.gh_sweep.specs.Moves as sweep
 use Rattle.gh_sweep.specs.Moves.{slots_laid}
 use Rattle.gh_state.specs.Shared.{seen_by_sweep, Shared, sweep_over, Told}
@@ -41,19 +36,19 @@ moved z a s (Deed m) = record s { heap = heap.moved z a s.heap m; slot = slot_th
 moved z a s (Sweep m) =
     let t = sweep.moved a (sweep_over s s.heap.words) m in
     record s { heap = record (s.heap) { words = t.words }; far = t.far; cut = t.cut; clear = t.clear; slot = t.slot; since = t.since; due = t.due; pend = t.pend }
-moved z a s Count = record s { heap = record (s.heap) { words = put s.heap.words cell.Heap ((s.heap.words cell.Heap + s.pend a) % 2 ^ 64) }; pend = with_word s.pend a 0 }
+moved z a s Count = record s { heap = record (s.heap) { words = put s.heap.words Cell.Heap ((s.heap.words Cell.Heap + s.pend a) % 2 ^ 64) }; pend = with_word s.pend a 0 }
 
 -- When a seat may make the move.
 
 -- the heap's count is the same, and so are the counts and marks of a sweep, while they are a sweep's
 pub record CountsStay (told : Option Told) (words then : Words) : Type 0 where
-  pub heap : then cell.Heap ≡ words cell.Heap
-  pub tally : told ≡ None → then cell.Tally ≡ words cell.Tally
-  pub live : told ≡ None → then cell.Live ≡ words cell.Live
-  pub marks : told ≡ None → (i : ℕ) → then (cell.Mark i) ≡ words (cell.Mark i)
+  pub heap : then Cell.Heap ≡ words Cell.Heap
+  pub tally : told ≡ None → then Cell.Tally ≡ words Cell.Tally
+  pub live : told ≡ None → then Cell.Live ≡ words Cell.Live
+  pub marks : told ≡ None → (i : ℕ) → then (Cell.Mark i) ≡ words (Cell.Mark i)
 
 abbrev pub IsLoad : Ask → Type 0
-IsLoad (ask.Load c) = Unit {0}
+IsLoad (Ask.Load c) = Unit {0}
 IsLoad _ = ⊥
 
 -- it is one of a sweep's own, which loads words besides

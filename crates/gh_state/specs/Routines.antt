@@ -1,18 +1,9 @@
 -- A sweep of a span over the one state.
 use Rattle.std.specs.Prelude.{◌≡◌, ◌≢◌, ℕ, ◌+◌, ◌<◌, true, false, None}
-use Rattle.gh_base.specs.declared.cell.Cell.TheVariants as cell
-use Rattle.gh_base.specs.declared.pack.PageWord.TheVariants.{Head}
-use Rattle.gh_base.specs.declared.pack.SpanHead.{SpanHead}
-use Rattle.gh_base.specs.Cells.{seats_of}
-use Rattle.gh_base.specs.Packing.{page_of}
+use Rattle.gh_state.specs.Vocabulary.{Arena, asks, Cell, generation_of, goes, Head, is_busy, Leaves, numbered_by, opening, page_of, seats_of, SpanHead, Sweeping}
 use Rattle.gh_base.specs.Steps.{cell_of, effect}
-use Rattle.gh_heap.specs.Moves.{Leaves}
 use Rattle.gh_heap.specs.Rights as rights
-use Rattle.gh_heap.specs.Rights.{Arena}
-use Rattle.gh_heap.specs.Spans.{numbered_by}
-use Rattle.gh_sweep.specs.Listing.{asks, goes, is_busy, opening, Sweeping}
 use Rattle.gh_sweep.specs.Moves as sweep
-use Rattle.gh_sweep.specs.Shared.{generation_of}
 use Rattle.gh_sweep.specs.Sweepers.{IsAtRest, move_of, SweepFacts}
 use Rattle.gh_state.specs.Good.{Good}
 use Rattle.gh_state.specs.Moves.{May, moved, Others, Sweep}
@@ -27,8 +18,8 @@ pub record SweepKeeps (s t : Shared) : Type 0 where
   pub place : t.heap.place ≡ s.heap.place
   pub ever : t.heap.ever ≡ s.heap.ever
   pub leaves : Leaves (rights.view s.heap) (rights.view t.heap)
-  pub owned : (p : ℕ) (h : SpanHead) → h.owner ≢ 0 → page_of (s.heap.words (cell.Page p)) ≡ Head h → page_of (t.heap.words (cell.Page p)) ≡ Head h
-  pub stands : (p : ℕ) (h : SpanHead) → h.owner ≡ 0 → page_of (s.heap.words (cell.Page p)) ≡ Head h → (number : ℕ) × (page_of (t.heap.words (cell.Page p)) ≡ Head (numbered_by number h))
+  pub owned : (p : ℕ) (h : SpanHead) → h.owner ≢ 0 → page_of (s.heap.words (Cell.Page p)) ≡ Head h → page_of (t.heap.words (Cell.Page p)) ≡ Head h
+  pub stands : (p : ℕ) (h : SpanHead) → h.owner ≡ 0 → page_of (s.heap.words (Cell.Page p)) ≡ Head h → (number : ℕ) × (page_of (t.heap.words (Cell.Page p)) ≡ Head (numbered_by number h))
 
 abbrev pub SweepsLeave : Type 0
 SweepsLeave = (z : Arena) (a : ℕ) (s : Shared) (m : sweep.Move) → Good z s → May z a s (Sweep m) → SweepKeeps s (moved z a s (Sweep m))
@@ -51,7 +42,7 @@ pub record GoesOn (z : Arena) (a : ℕ) (s : Shared) (m : Sweeping) (found : ℕ
 
 pub record SweepsByTheState : Type 0 where
   -- it may be begun, by whomever, where the page's word is found to be the head of an unswept span
-  pub opens : (z : Arena) (a : ℕ) (s : Shared) (p : ℕ) (h : SpanHead) → Good z s → s.told ≡ None → SeatSweepsNothing a s → page_of (s.heap.words (cell.Page p)) ≡ Head h → h.number + 2 ≡ generation_of s.end → SweepRuns a s (opening p h)
+  pub opens : (z : Arena) (a : ℕ) (s : Shared) (p : ℕ) (h : SpanHead) → Good z s → s.told ≡ None → SeatSweepsNothing a s → page_of (s.heap.words (Cell.Page p)) ≡ Head h → h.number + 2 ≡ generation_of s.end → SweepRuns a s (opening p h)
   -- each of its steps is a move, and leads on
   pub own : (z : Arena) (a : ℕ) (s : Shared) (m : Sweeping) → Good z s → a < seats_of z.layout → SweepRuns a s m → is_busy m.stage ≡ true → GoesOn z a s m (s.heap.words (cell_of (asks z.layout m)))
   -- and what is known lasts

@@ -1,12 +1,7 @@
 -- The bytes of a slot, by page words alone.
 use Rattle.std.specs.Prelude.{◌≡◌, ℕ, ◌-◌, ◌/◌}
+use Rattle.gh_state.specs.Vocabulary.{Body, Free, Head, InSpan, IsSpan, page_of, Row, slot_bytes}
 use Rattle.gh_base.specs.declared.pack.PageWord.{PageWord}
-use Rattle.gh_base.specs.declared.pack.PageWord.TheVariants.{Body, Free, Head}
-use Rattle.gh_base.specs.Packing.{page_of}
-use Rattle.gh_base.specs.Rows.{Row}
-use Rattle.gh_heap.specs.Spans.{IsSpan}
-use Rattle.gh_sweep.specs.Listing.{slot_bytes}
-use Rattle.gh_sweep.specs.Shared.{InSpan}
 
 abbrev pub bytes_at_head : PageWord → ℕ
 bytes_at_head Free = 0

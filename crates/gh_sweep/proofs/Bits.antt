@@ -1,12 +1,7 @@
 -- Sums, and the count of a word's set bits as the sum of its bits.
-use Rattle.std.proofs.Common.{ap, ◌-◌, ◌≡◌, ℕ, suc, zero, ◌+◌, ◌/◌, ◌%◌, ◌^◌, ◌<◌, ◌≤◌, arith, refl, sym, ◌∙◌, eqb}
-use Rattle.std.specs.Prelude.{bit_and, count_ones, min, ◌&&◌, not}
-use Rattle.std.specs.Int.{bit_at, w64}
+use Rattle.std.proofs.Common.{ap, ◌-◌, ◌≡◌, ℕ, suc, zero, ◌+◌, ◌/◌, ◌%◌, ◌^◌, ◌<◌, ◌≤◌, arith, refl, sym, ◌∙◌, eqb, bit_and, count_ones, min, ◌&&◌, not}
 use Rattle.std.specs.Int.Count.{ones_step}
-use Rattle.std.proofs.lemmas.Nat.Bits.{bit_at_and, bit_at_not, bit_at-lt, bit_at_lowest, bit_at-suc}
-use Rattle.std.proofs.lemmas.Nat.{and_le_l, ones_le_self}
-use Rattle.gh_base.specs.Packing.{bit}
-use Rattle.gh_sweep.specs.Bits.{BitsAreKeptOrFreed, freed_in, kept_in, SetBitsAreCounted, sum_below}
+use Rattle.gh_sweep.proofs.Vocabulary.{and_le_l, bit, bit_at, bit_at-lt, bit_at-suc, bit_at_and, bit_at_lowest, bit_at_not, BitsAreKeptOrFreed, freed_in, kept_in, ones_le_self, SetBitsAreCounted, sum_below, w64}
 
 pub sum_none : (f : ℕ → ℕ) → sum_below f 0 ≡ 0
 unfolding sum_below

@@ -1,17 +1,7 @@
 -- What a sweep leaves where no other actor's step lies between its own.
 use Rattle.std.specs.Prelude.{◌≡◌, ◌≢◌, ℕ, ◌+◌, ◌*◌, ◌%◌, ◌^◌, ◌<◌, ◌↔◌, Some}
-use Rattle.gh_base.specs.declared.cell.Cell.{Cell}
-use Rattle.gh_base.specs.declared.cell.Cell.TheVariants as cell
-use Rattle.gh_base.specs.declared.layout.Layout.{Layout}
-use Rattle.gh_base.specs.declared.pack.SpanHead.{SpanHead}
-use Rattle.gh_base.specs.Cells.{Words}
-use Rattle.gh_base.specs.Packing.{head_word}
-use Rattle.gh_base.specs.Machines.{steps_of}
-use Rattle.gh_base.specs.Routines.{Alone, Leaves}
+use Rattle.gh_sweep.specs.Vocabulary.{alloc_bit, alloc_words, Alone, Cell, cell_of, head_word, Layout, Leaves, mark_bit, mark_words, SpanHead, steps_of, Swept, Words}
 use Rattle.gh_base.specs.Routines as routine
-use Rattle.gh_base.specs.Rows.{alloc_bit, alloc_words, mark_bit, mark_words}
-use Rattle.gh_base.specs.Steps.{cell_of}
-use Rattle.gh_sweep.specs.declared.sweep.SweepEnd.TheVariants.{Swept}
 use Rattle.gh_sweep.specs.Counts.{marked_objects, unmarked_objects}
 use Rattle.gh_sweep.specs.Listing.{asks, bit_words, gives, listing, once_swept, opening, slot_bytes, Sweeping}
 use Rattle.gh_sweep.specs.Steps.{IsInArena, span_of, steps_on_bits}
@@ -25,23 +15,23 @@ module _ (l : Layout) (page : ℕ) (head : SpanHead) (before : Words) where
 
   -- a cell that is neither the head nor a word of the span's bits nor a count
   pub record IsOther (c : Cell) : Type 0 where
-    pub head_word : c ≢ cell.Page page
-    pub alloc : (i : ℕ) → i < bit_words head → c ≢ cell.Alloc (16 * page + i)
-    pub mark : (i : ℕ) → i < bit_words head → c ≢ cell.Mark (16 * page + i)
-    pub tally : c ≢ cell.Tally
-    pub live : c ≢ cell.Live
-    pub heap : c ≢ cell.Heap
+    pub head_word : c ≢ Cell.Page page
+    pub alloc : (i : ℕ) → i < bit_words head → c ≢ Cell.Alloc (16 * page + i)
+    pub mark : (i : ℕ) → i < bit_words head → c ≢ Cell.Mark (16 * page + i)
+    pub tally : c ≢ Cell.Tally
+    pub live : c ≢ Cell.Live
+    pub heap : c ≢ Cell.Heap
 
   pub record IsSwept (after : Words) : Type 0 where
     -- a heap word of the span has its alloc bit exactly where it had both bits, and no mark is left
     pub objects : (k : ℕ) → k < 1024 * head.pages → (alloc_bit after (1024 * page + k) ≡ 1) ↔ ((alloc_bit before (1024 * page + k) ≡ 1) × (mark_bit before (1024 * page + k) ≡ 1))
-    pub marks : (i : ℕ) → i < bit_words head → after (cell.Mark (16 * page + i)) ≡ 0
+    pub marks : (i : ℕ) → i < bit_words head → after (Cell.Mark (16 * page + i)) ≡ 0
     -- the counts are changed by what was kept and freed, modulo 2^64
-    pub tally : after cell.Tally ≡ (before cell.Tally + (objects_kept + 2 ^ 32 * objects_freed)) % 2 ^ 64
-    pub live : after cell.Live ≡ (before cell.Live + objects_kept * slot_bytes head) % 2 ^ 64
-    pub heap : (after cell.Heap + objects_freed * slot_bytes head) % 2 ^ 64 ≡ before cell.Heap
+    pub tally : after Cell.Tally ≡ (before Cell.Tally + (objects_kept + 2 ^ 32 * objects_freed)) % 2 ^ 64
+    pub live : after Cell.Live ≡ (before Cell.Live + objects_kept * slot_bytes head) % 2 ^ 64
+    pub heap : (after Cell.Heap + objects_freed * slot_bytes head) % 2 ^ 64 ≡ before Cell.Heap
     -- the head says that nobody owns the span and that it is swept
-    pub head_is : after (cell.Page page) ≡ head_word (once_swept head)
+    pub head_is : after (Cell.Page page) ≡ head_word (once_swept head)
     -- and nothing else is changed
     pub others : (c : Cell) → IsOther c → after c ≡ before c
 
@@ -63,4 +53,4 @@ module _ (l : Layout) (page : ℕ) (head : SpanHead) (before : Words) where
     pub gives_counts : gives (alone (steps_on_bits head + 3)).routine (found_alone (steps_on_bits head + 3)) ≡ Some (Swept (span_of head objects_kept objects_freed))
 
 abbrev pub SpansAreSwept : Type 0
-SpansAreSwept = (l : Layout) (page : ℕ) (head : SpanHead) (before : Words) → IsInArena l page head → ((c : Cell) → before c < 2 ^ 64) → before (cell.Page page) ≡ head_word head → SweepsSpan l page head before
+SpansAreSwept = (l : Layout) (page : ℕ) (head : SpanHead) (before : Words) → IsInArena l page head → ((c : Cell) → before c < 2 ^ 64) → before (Cell.Page page) ≡ head_word head → SweepsSpan l page head before

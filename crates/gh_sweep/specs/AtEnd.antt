@@ -1,10 +1,6 @@
 -- The state where a cycle has ended, which sweeps begin with; and its words of bits as objects.
 use Rattle.std.specs.Prelude.{◌≡◌, ℕ, suc, zero, ◌+◌, ◌*◌, ◌/◌, Bool, false, ◌||◌, not, nat_lt}
-use Rattle.gh_base.specs.declared.cell.Cell.TheVariants as cell
-use Rattle.gh_base.specs.declared.pack.PageWord.{PageWord}
-use Rattle.gh_base.specs.declared.pack.PageWord.TheVariants.{Free, Head, Body}
-use Rattle.gh_base.specs.Packing.{page_of}
-use Rattle.gh_base.specs.Rows.{page_words, Row}
+use Rattle.gh_sweep.specs.Vocabulary.{Body, Cell, Free, Head, page_of, page_words, PageWord, Row}
 use Rattle.gh_sweep.specs.Counts.{count_below, is_set, marked_objects, unmarked_objects}
 use Rattle.gh_sweep.specs.Shared.{alloc_at, CycleEnd, Done, Far, freed_at, Good, HasEnded, in_all, kept_at, marks_at, nothing_due, Shared, Unswept, view}
 use Rattle.gh_sweep.specs.Sweepers.{IsAtRest}
@@ -34,7 +30,7 @@ in_no_span page i = not (some_below (λ p. reaches i p (page_of (page p))) (i / 
 abbrev pub at_end : CycleEnd → Shared
 at_end e = record {
   words = e.words;
-  far = λ p. far_in (page_of (e.words (cell.Page p)));
+  far = λ p. far_in (page_of (e.words (Cell.Page p)));
   cut = in_no_span (page_words e.words);
   clear = in_no_span (page_words e.words);
   slot = e.slot;

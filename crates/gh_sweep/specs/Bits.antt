@@ -1,6 +1,6 @@
 -- How many bits of a word are set, and how many objects a sweep keeps and frees.
 use Rattle.std.specs.Prelude.{◌≡◌, ℕ, zero, suc, ◌+◌, ◌-◌, ◌^◌, ◌<◌, bit_and, count_ones}
-use Rattle.std.specs.Int.{bit_at}
+use Rattle.gh_sweep.specs.Vocabulary.{bit_at}
 
 -- the sum of f over the numbers below n
 unfoldable pub sum_below : (ℕ → ℕ) → ℕ → ℕ

@@ -1,14 +1,6 @@
 -- The numbers that a sweep tells, as those of objects: heap words by their two bits.
 use Rattle.std.specs.Prelude.{◌≡◌, ℕ, ◌+◌, ◌*◌, ◌^◌, ◌<◌, Bool, ◌==◌, ◌&&◌, not}
-use Rattle.gh_base.specs.declared.cell.Cell.TheVariants as cell
-use Rattle.gh_base.specs.declared.cell.Ask.TheVariants.{Add, And}
-use Rattle.gh_base.specs.declared.layout.Layout.{Layout}
-use Rattle.gh_base.specs.declared.pack.SpanHead.{SpanHead}
-use Rattle.gh_base.specs.Packing.{bit}
-use Rattle.gh_base.specs.Machines.{steps_of}
-use Rattle.gh_base.specs.Routines.{EndsWith}
-use Rattle.gh_base.specs.Rows.{Row, row_bit}
-use Rattle.gh_sweep.specs.declared.sweep.SweepEnd.TheVariants.{Swept}
+use Rattle.gh_sweep.specs.Vocabulary.{Add, And, bit, Cell, EndsWith, Layout, Row, row_bit, SpanHead, steps_of, Swept}
 use Rattle.gh_sweep.specs.Bits.{sum_below}
 use Rattle.gh_sweep.specs.Listing.{asks, bit_words, listing, negative, opening, slot_bytes}
 use Rattle.gh_sweep.specs.Steps.{after, alloc_told, freed_told, IsBegun, IsInArena, kept_told, marks_told, span_of, steps_on_bits}
@@ -53,10 +45,10 @@ module _ (alloc mark : Row) (l : Layout) (page : ℕ) (head : SpanHead) (found :
   pub record SweepsRows : Type 0 where
     pub kept_are : kept_told found (bit_words head) ≡ marked
     pub freed_are : freed_told found (bit_words head) ≡ unmarked
-    pub clears_bits : (i : ℕ) → i < bit_words head → asks l (after l page head found (2 + 3 * i)) ≡ And (cell.Alloc (16 * page + i)) (mark (16 * page + i))
-    pub adds_tally : asks l (after l page head found (steps_on_bits head)) ≡ Add cell.Tally (marked + 2 ^ 32 * unmarked)
-    pub adds_live : asks l (after l page head found (steps_on_bits head + 1)) ≡ Add cell.Live (marked * slot_bytes head)
-    pub adds_heap : asks l (after l page head found (steps_on_bits head + 2)) ≡ Add cell.Heap (negative (unmarked * slot_bytes head))
+    pub clears_bits : (i : ℕ) → i < bit_words head → asks l (after l page head found (2 + 3 * i)) ≡ And (Cell.Alloc (16 * page + i)) (mark (16 * page + i))
+    pub adds_tally : asks l (after l page head found (steps_on_bits head)) ≡ Add Cell.Tally (marked + 2 ^ 32 * unmarked)
+    pub adds_live : asks l (after l page head found (steps_on_bits head + 1)) ≡ Add Cell.Live (marked * slot_bytes head)
+    pub adds_heap : asks l (after l page head found (steps_on_bits head + 2)) ≡ Add Cell.Heap (negative (unmarked * slot_bytes head))
     pub gives_counts : EndsWith (steps_of l (listing l)) (opening page head) found (steps_on_bits head + 3) (Swept (span_of head marked unmarked))
 
 abbrev pub ObjectsAreCounted : Type 0

@@ -1,17 +1,6 @@
 -- What a sweep relies on at each stage, where other actors' steps lie between its own, and what it leaves to the next.
 use Rattle.std.specs.Prelude.{◌≡◌, ◌≢◌, ℕ, ◌+◌, ◌*◌, ◌<◌, ◌≤◌, ◌⊎◌, true, nat_lt, Some, bit_and, count_ones}
-use Rattle.std.specs.Int.{bit_at}
-use Rattle.gh_base.specs.declared.cell.Cell.TheVariants.{Alloc, Mark, Page}
-use Rattle.gh_base.specs.declared.layout.Layout.{Layout}
-use Rattle.gh_base.specs.declared.pack.PageWord.TheVariants.{Head}
-use Rattle.gh_base.specs.declared.pack.SpanHead.{SpanHead}
-use Rattle.gh_base.specs.Cells.{Words}
-use Rattle.gh_base.specs.Packing.{head_word, page_of}
-use Rattle.gh_base.specs.Steps.{cell_of, effect}
-use Rattle.gh_sweep.specs.declared.sweep.SweepEnd.TheVariants.{Lost, Swept}
-use Rattle.gh_sweep.specs.declared.sweep.SweepStage.{SweepStage}
-use Rattle.gh_sweep.specs.declared.sweep.SweepStage.TheVariants.{Begin, LoadMarks, ClearBits, ClearMarks, AddTally, AddLive, AddHeap, Finish, Ended}
-use Rattle.gh_sweep.specs.declared.sweep.SweptSpan.{SweptSpan}
+use Rattle.gh_sweep.specs.Vocabulary.{AddHeap, AddLive, AddTally, Alloc, Begin, bit_at, cell_of, ClearBits, ClearMarks, effect, Ended, Finish, Head, head_word, Layout, LoadMarks, Lost, Mark, Page, page_of, SpanHead, SweepStage, Swept, SweptSpan, Words}
 use Rattle.gh_sweep.specs.Bits.{sum_below}
 use Rattle.gh_sweep.specs.Listing.{asks, bit_words, gives, goes, in_sweep, is_busy, once_swept, slots_in, Sweeping}
 use Rattle.gh_sweep.specs.Sound.{FitsSweep, IsStage}

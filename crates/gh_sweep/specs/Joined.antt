@@ -1,10 +1,6 @@
 -- Allocation beside the sweep: what gh_heap says of whole spans is enough for what is said of spans here.
 use Rattle.std.specs.Prelude.{◌≡◌, ℕ}
-use Rattle.gh_base.specs.declared.pack.PageWord.TheVariants.{Head}
-use Rattle.gh_base.specs.declared.pack.SpanHead.{SpanHead}
-use Rattle.gh_base.specs.Packing.{FitsHead, page_of}
-use Rattle.gh_base.specs.Rows.{Row}
-use Rattle.gh_heap.specs.Spans.{IsSpan, LaidOut, Laying}
+use Rattle.gh_sweep.specs.Vocabulary.{FitsHead, Head, IsSpan, LaidOut, Laying, page_of, Row, SpanHead}
 use Rattle.gh_sweep.specs.Moves.{MayLay}
 use Rattle.gh_sweep.specs.Shared.{ApartGood, CycleEnd, generation_of}
 

@@ -1,23 +1,9 @@
 -- A span is swept: what is asked for at each stage, where that leads, what is given, and what is written.
 use Rattle.std.specs.Prelude.{ℕ, ◌+◌, ◌-◌, ◌*◌, ◌%◌, ◌^◌, Bool, true, false, nat_lt, ◌==◌, if◌then◌else◌, Option, Some, None, is_none}
-use Rattle.gh_base.specs.declared.cell.Cell.TheVariants as cell
-use Rattle.gh_base.specs.declared.cell.Ask.{Ask}
-use Rattle.gh_base.specs.declared.cell.Ask.TheVariants.{Load, Store, And, Add, Swap}
-use Rattle.gh_base.specs.declared.layout.Layout.{Layout}
-use Rattle.gh_base.specs.declared.pack.SpanHead.{SpanHead}
+use Rattle.gh_sweep.specs.Vocabulary.{Add, AddHeap, AddLive, AddTally, And, Ask, Begin, Cell, ClearBits, ClearMarks, Ended, Finish, head_word, Large, Layout, Listing, Load, LoadMarks, Lost, slot_of, slots_of, Small, SpanHead, Store, Swap, Sweep, SweepEnd, SweepStage, Swept, SweptSpan, tally_word}
 use Rattle.gh_base.specs.Footprints.{Footprint}
 use Rattle.gh_base.specs.Footprints as row
-use Rattle.gh_base.specs.Machines.{Listing}
-use Rattle.gh_base.specs.Packing.{head_word, tally_word}
 use Rattle.gh_class.specs.declared.class.SizeClass.{SizeClass}
-use Rattle.gh_class.specs.declared.class.SizeClass.TheVariants.{Small, Large}
-use Rattle.gh_class.specs.Classes.{slot_of, slots_of}
-use Rattle.gh_sweep.specs.declared.sweep.Sweep.{Sweep}
-use Rattle.gh_sweep.specs.declared.sweep.SweepEnd.{SweepEnd}
-use Rattle.gh_sweep.specs.declared.sweep.SweepEnd.TheVariants.{Lost, Swept}
-use Rattle.gh_sweep.specs.declared.sweep.SweepStage.{SweepStage}
-use Rattle.gh_sweep.specs.declared.sweep.SweepStage.TheVariants.{Begin, LoadMarks, ClearBits, ClearMarks, AddTally, AddLive, AddHeap, Finish, Ended}
-use Rattle.gh_sweep.specs.declared.sweep.SweptSpan.{SweptSpan}
 use Rattle.gh_sweep.specs.Bits.{freed_in, kept_in}
 use Rattle.gh_sweep.specs.Sound.{Sound}
 pub use Rattle.gh_sweep.specs.Sound.{bit_words}
@@ -61,15 +47,15 @@ module _ (l : Layout) (s : Sweeping) where
   word_at i = (16 * s.page + i) % (16 * l.pages)
 
   abbrev pub asks_at : SweepStage → Ask
-  asks_at Begin = Swap (cell.Page s.page) (head_word s.head) (head_word (in_sweep s.head))
-  asks_at (LoadMarks i) = Load (cell.Mark (word_at i))
-  asks_at (ClearBits i marks) = And (cell.Alloc (word_at i)) marks
-  asks_at (ClearMarks i) = Store (cell.Mark (word_at i)) 0
-  asks_at AddTally = Add cell.Tally (tally_word (record { marked = s.kept; freed = s.freed }))
-  asks_at AddLive = Add cell.Live (s.kept * slot_bytes s.head)
-  asks_at AddHeap = Add cell.Heap (negative (s.freed * slot_bytes s.head))
-  asks_at Finish = Store (cell.Page s.page) (head_word (once_swept s.head))
-  asks_at (Ended end) = Load cell.Touch
+  asks_at Begin = Swap (Cell.Page s.page) (head_word s.head) (head_word (in_sweep s.head))
+  asks_at (LoadMarks i) = Load (Cell.Mark (word_at i))
+  asks_at (ClearBits i marks) = And (Cell.Alloc (word_at i)) marks
+  asks_at (ClearMarks i) = Store (Cell.Mark (word_at i)) 0
+  asks_at AddTally = Add Cell.Tally (tally_word (record { marked = s.kept; freed = s.freed }))
+  asks_at AddLive = Add Cell.Live (s.kept * slot_bytes s.head)
+  asks_at AddHeap = Add Cell.Heap (negative (s.freed * slot_bytes s.head))
+  asks_at Finish = Store (Cell.Page s.page) (head_word (once_swept s.head))
+  asks_at (Ended end) = Load Cell.Touch
 
 module _ (s : Sweeping) where
   -- the next word of the span's bits, if there is one

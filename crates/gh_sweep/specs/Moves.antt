@@ -1,17 +1,7 @@
 -- The moves by which an actor changes the shared state while spans are swept, when it may make them, and what they leave to the others.
 use Rattle.std.specs.Prelude.{◌≡◌, ◌≢◌, ℕ, ◌+◌, ◌*◌, ◌/◌, ◌%◌, ◌^◌, ◌<◌, ◌≤◌, ◌⊎◌, true, ◌&&◌, if◌then◌else◌, bit_and, bit_or, nat_le, nat_lt}
-use Rattle.gh_base.specs.declared.cell.Ask.{Ask}
-use Rattle.gh_base.specs.declared.cell.Ask.TheVariants as ask
-use Rattle.gh_base.specs.declared.cell.Cell.{Cell}
-use Rattle.gh_base.specs.declared.cell.Cell.TheVariants as cell
-use Rattle.gh_base.specs.declared.pack.PageWord.TheVariants.{Head}
-use Rattle.gh_base.specs.declared.pack.SpanHead.{SpanHead}
-use Rattle.gh_base.specs.Cells.{put, seats_of, Words}
-use Rattle.gh_base.specs.Packing.{FitsHead, head_word, page_of, tally_word}
-use Rattle.gh_base.specs.Rows.{alloc_words, page_words, Row, row_bit, with_word}
-use Rattle.gh_base.specs.Steps.{cell_of, effect}
+use Rattle.gh_sweep.specs.Vocabulary.{alloc_words, Ask, Cell, cell_of, effect, FitsHead, Head, head_word, owned_by, page_of, page_words, put, Row, row_bit, seats_of, SpanHead, tally_word, with_word, Words}
 use Rattle.gh_heap.specs.Moves.{update}
-use Rattle.gh_heap.specs.Spans.{owned_by}
 use Rattle.gh_sweep.specs.Bits.{freed_in, kept_in}
 use Rattle.gh_sweep.specs.Facts.{HasNotNumber}
 use Rattle.gh_sweep.specs.Listing.{bit_words, in_sweep, negative, once_swept, slot_bytes}
@@ -52,58 +42,58 @@ module _ (a : ℕ) (s : Shared) where
   -- word i of the bits is cut to its marks
   abbrev pub word_cut : ℕ → Shared
   word_cut i = record s {
-    words = put s.words (cell.Alloc i) (bit_and (s.words (cell.Alloc i)) (s.words (cell.Mark i)));
+    words = put s.words (Cell.Alloc i) (bit_and (s.words (Cell.Alloc i)) (s.words (Cell.Mark i)));
     cut = update s.cut i true;
-    due = update s.due a (with_word_cut (s.due a) (kept_in (s.words (cell.Alloc i)) (s.words (cell.Mark i))) (freed_in (s.words (cell.Alloc i)) (s.words (cell.Mark i))) (s.slot i));
+    due = update s.due a (with_word_cut (s.due a) (kept_in (s.words (Cell.Alloc i)) (s.words (Cell.Mark i))) (freed_in (s.words (Cell.Alloc i)) (s.words (Cell.Mark i))) (s.slot i));
   }
 
   abbrev pub tally_told : Shared
   tally_told = record s {
-    words = put s.words cell.Tally ((s.words cell.Tally + tally_word (record { marked = (s.due a).kept; freed = (s.due a).freed })) % 2 ^ 64);
+    words = put s.words Cell.Tally ((s.words Cell.Tally + tally_word (record { marked = (s.due a).kept; freed = (s.due a).freed })) % 2 ^ 64);
     due = update s.due a (record (s.due a) { kept = 0; freed = 0 });
   }
 
   abbrev pub moved : Move → Shared
   moved (Quiet step) = record s { words = effect s.words step }
-  moved (Starts p h) = record s { words = put s.words (cell.Page p) (head_word (in_sweep h)); far = update s.far p (By a) }
+  moved (Starts p h) = record s { words = put s.words (Cell.Page p) (head_word (in_sweep h)); far = update s.far p (By a) }
   moved (Cuts p h i) = word_cut (16 * p + i)
-  moved (Clears p h i) = record s { words = put s.words (cell.Mark (16 * p + i)) 0; clear = update s.clear (16 * p + i) true }
+  moved (Clears p h i) = record s { words = put s.words (Cell.Mark (16 * p + i)) 0; clear = update s.clear (16 * p + i) true }
   moved TellsTally = tally_told
-  moved TellsLive = record s { words = put s.words cell.Live ((s.words cell.Live + (s.due a).live) % 2 ^ 64); due = update s.due a (record (s.due a) { live = 0 }) }
-  moved TellsHeap = record s { words = put s.words cell.Heap ((s.words cell.Heap + negative (s.due a).cleared) % 2 ^ 64); due = update s.due a (record (s.due a) { cleared = 0 }) }
-  moved (Ends p h) = record s { words = put s.words (cell.Page p) (head_word (once_swept h)); far = update s.far p Done }
-  moved (Passes p h owner) = record s { words = put s.words (cell.Page p) (head_word (owned_by owner h)) }
-  moved (Lays p h) = record s { words = put s.words (cell.Page p) (head_word h); slot = slots_laid s.slot p h }
-  moved (Frees p h) = record s { words = put s.words (cell.Page p) 0 }
-  moved (Turns p word) = record s { words = put s.words (cell.Page p) word }
+  moved TellsLive = record s { words = put s.words Cell.Live ((s.words Cell.Live + (s.due a).live) % 2 ^ 64); due = update s.due a (record (s.due a) { live = 0 }) }
+  moved TellsHeap = record s { words = put s.words Cell.Heap ((s.words Cell.Heap + negative (s.due a).cleared) % 2 ^ 64); due = update s.due a (record (s.due a) { cleared = 0 }) }
+  moved (Ends p h) = record s { words = put s.words (Cell.Page p) (head_word (once_swept h)); far = update s.far p Done }
+  moved (Passes p h owner) = record s { words = put s.words (Cell.Page p) (head_word (owned_by owner h)) }
+  moved (Lays p h) = record s { words = put s.words (Cell.Page p) (head_word h); slot = slots_laid s.slot p h }
+  moved (Frees p h) = record s { words = put s.words (Cell.Page p) 0 }
+  moved (Turns p word) = record s { words = put s.words (Cell.Page p) word }
   moved (Places x) = record s {
-    words = put s.words (cell.Alloc (x / 64)) (bit_or (s.words (cell.Alloc (x / 64))) (2 ^ (x % 64)));
+    words = put s.words (Cell.Alloc (x / 64)) (bit_or (s.words (Cell.Alloc (x / 64))) (2 ^ (x % 64)));
     since = update s.since x true;
     pend = with_word s.pend a (s.pend a + s.slot (x / 64));
   }
-  moved Counts = record s { words = put s.words cell.Heap ((s.words cell.Heap + s.pend a) % 2 ^ 64); pend = with_word s.pend a 0 }
+  moved Counts = record s { words = put s.words Cell.Heap ((s.words Cell.Heap + s.pend a) % 2 ^ 64); pend = with_word s.pend a 0 }
 
 -- When an actor may make the move.
 
 -- rows of which nothing is said here
 abbrev pub IsBesideSweeps : Cell → Type 0
-IsBesideSweeps cell.Gen = ⊥
-IsBesideSweeps cell.Heap = ⊥
-IsBesideSweeps cell.Tally = ⊥
-IsBesideSweeps cell.Live = ⊥
-IsBesideSweeps (cell.Page i) = ⊥
-IsBesideSweeps (cell.Alloc i) = ⊥
-IsBesideSweeps (cell.Mark i) = ⊥
+IsBesideSweeps Cell.Gen = ⊥
+IsBesideSweeps Cell.Heap = ⊥
+IsBesideSweeps Cell.Tally = ⊥
+IsBesideSweeps Cell.Live = ⊥
+IsBesideSweeps (Cell.Page i) = ⊥
+IsBesideSweeps (Cell.Alloc i) = ⊥
+IsBesideSweeps (Cell.Mark i) = ⊥
 IsBesideSweeps _ = Unit {0}
 
 abbrev pub ChangesNothing : Ask → Type 0
-ChangesNothing (ask.Load c) = Unit {0}
+ChangesNothing (Ask.Load c) = Unit {0}
 ChangesNothing step = IsBesideSweeps (cell_of step)
 
 -- The actor sweeps the span at page p, whose head was found to be h; it has cut so many of its words, and cleared the marks of so many.
 pub record Sweeps (a p : ℕ) (h : SpanHead) (cut clear : ℕ) (s : Shared) : Type 0 where
   pub by : s.far p ≡ By a
-  pub head : page_of (s.words (cell.Page p)) ≡ Head (in_sweep h)
+  pub head : page_of (s.words (Cell.Page p)) ≡ Head (in_sweep h)
   pub are_cut : (i : ℕ) → i < bit_words h → s.cut (16 * p + i) ≡ nat_lt i cut
   pub are_clear : (i : ℕ) → i < bit_words h → s.clear (16 * p + i) ≡ nat_lt i clear
 
@@ -138,17 +128,17 @@ module _ (e : CycleEnd) (a : ℕ) (s : Shared) where
 
   abbrev pub May : Move → Type 0
   May (Quiet step) = ChangesNothing step
-  May (Starts p h) = (page_of (s.words (cell.Page p)) ≡ Head h) × (h.number + 2 ≡ generation_of e)
+  May (Starts p h) = (page_of (s.words (Cell.Page p)) ≡ Head h) × (h.number + 2 ≡ generation_of e)
   May (Cuts p h i) = IsSeat × Sweeps a p h i i s × (i < bit_words h)
   May (Clears p h i) = Sweeps a p h (i + 1) i s × (i < bit_words h)
   May TellsTally = IsSeat
   May TellsLive = IsSeat
   May TellsHeap = IsSeat
   May (Ends p h) = Sweeps a p h (bit_words h) (bit_words h) s × (s.due a ≡ nothing_due)
-  May (Passes p h owner) = HasHead (s.words (cell.Page p)) (generation_of e) h × (owner < 2 ^ 8)
+  May (Passes p h owner) = HasHead (s.words (Cell.Page p)) (generation_of e) h × (owner < 2 ^ 8)
   May (Lays p h) = MayLay e (page_words s.words) p h
-  May (Frees p h) = HasHead (s.words (cell.Page p)) (generation_of e) h × HasNoAllocBit (alloc_words s.words) p h
-  May (Turns p word) = IsNoHead (s.words (cell.Page p)) × IsNoHead word
+  May (Frees p h) = HasHead (s.words (Cell.Page p)) (generation_of e) h × HasNoAllocBit (alloc_words s.words) p h
+  May (Turns p word) = IsNoHead (s.words (Cell.Page p)) × IsNoHead word
   May (Places x) = IsSeat × MayPlace e (page_words s.words) (alloc_words s.words) x
   May Counts = IsSeat
 
@@ -157,19 +147,19 @@ module _ (e : CycleEnd) (a : ℕ) (s : Shared) where
 -- a span that it sweeps
 pub record SpanIsLeft (a p : ℕ) (h : SpanHead) (s t : Shared) : Type 0 where
   pub by : t.far p ≡ By a
-  pub head : t.words (cell.Page p) ≡ s.words (cell.Page p)
+  pub head : t.words (Cell.Page p) ≡ s.words (Cell.Page p)
   pub cut : (i : ℕ) → i < bit_words h → t.cut (16 * p + i) ≡ s.cut (16 * p + i)
   pub clear : (i : ℕ) → i < bit_words h → t.clear (16 * p + i) ≡ s.clear (16 * p + i)
-  pub alloc : (i : ℕ) → i < bit_words h → t.words (cell.Alloc (16 * p + i)) ≡ s.words (cell.Alloc (16 * p + i))
-  pub marks : (i : ℕ) → i < bit_words h → t.words (cell.Mark (16 * p + i)) ≡ s.words (cell.Mark (16 * p + i))
+  pub alloc : (i : ℕ) → i < bit_words h → t.words (Cell.Alloc (16 * p + i)) ≡ s.words (Cell.Alloc (16 * p + i))
+  pub marks : (i : ℕ) → i < bit_words h → t.words (Cell.Mark (16 * p + i)) ≡ s.words (Cell.Mark (16 * p + i))
 
 pub record OthersLeave (e : CycleEnd) (a : ℕ) (s t : Shared) : Type 0 where
-  pub mine : (p : ℕ) (h : SpanHead) → s.far p ≡ By a → page_of (s.words (cell.Page p)) ≡ Head (in_sweep h) → SpanIsLeft a p h s t
+  pub mine : (p : ℕ) (h : SpanHead) → s.far p ≡ By a → page_of (s.words (Cell.Page p)) ≡ Head (in_sweep h) → SpanIsLeft a p h s t
   -- no other has become its own
   pub back : (p : ℕ) → t.far p ≡ By a → s.far p ≡ By a
   pub done : (p : ℕ) → s.far p ≡ Done → t.far p ≡ Done
   -- where a page's word changes, it has no head of an unswept span
-  pub heads : (p number : ℕ) → number + 2 ≡ generation_of e → (t.words (cell.Page p) ≡ s.words (cell.Page p)) ⊎ HasNotNumber number (t.words (cell.Page p))
+  pub heads : (p number : ℕ) → number + 2 ≡ generation_of e → (t.words (Cell.Page p) ≡ s.words (Cell.Page p)) ⊎ HasNotNumber number (t.words (Cell.Page p))
   pub due : t.due a ≡ s.due a
   pub pend : t.pend a ≡ s.pend a
 

@@ -1,12 +1,6 @@
 -- A routine that runs sweeps of spans: that its steps are theirs meanwhile, and where one begins.
 use Rattle.std.specs.Prelude.{◌≡◌, ℕ, ◌+◌, true, if◌then◌else◌, Option, Some, None}
-use Rattle.gh_base.specs.declared.cell.Ask.{Ask}
-use Rattle.gh_base.specs.declared.cell.Ask.TheVariants.{Load}
-use Rattle.gh_base.specs.declared.cell.Cell.TheVariants.{Page}
-use Rattle.gh_base.specs.declared.layout.Layout.{Layout}
-use Rattle.gh_base.specs.declared.pack.PageWord.TheVariants.{Head}
-use Rattle.gh_base.specs.declared.pack.SpanHead.{SpanHead}
-use Rattle.gh_base.specs.Packing.{page_of}
+use Rattle.gh_sweep.specs.Vocabulary.{Ask, Head, Layout, Load, Page, page_of, SpanHead}
 use Rattle.gh_sweep.specs.Listing.{asks, goes, is_busy, opening, Sweeping}
 
 -- the sweep after a step that found this, as long as it goes on

@@ -1,13 +1,6 @@
 -- The words while any number of actors sweep the spans that a cycle has left unswept, and others take spans and place objects: the ghosts beside the words, and what holds at every moment.
 use Rattle.std.specs.Prelude.{◌≡◌, ◌≢◌, ℕ, ◌+◌, ◌*◌, ◌/◌, ◌^◌, ◌<◌, ◌≤◌, ◌⊎◌, Bool, true, false, if◌then◌else◌, count_ones}
-use Rattle.gh_base.specs.declared.cell.Cell.TheVariants as cell
-use Rattle.gh_base.specs.declared.layout.Layout.{Layout}
-use Rattle.gh_base.specs.declared.pack.PageWord.{PageWord}
-use Rattle.gh_base.specs.declared.pack.PageWord.TheVariants.{Free, Head, Body}
-use Rattle.gh_base.specs.declared.pack.SpanHead.{SpanHead}
-use Rattle.gh_base.specs.Cells.{seats_of, Words}
-use Rattle.gh_base.specs.Packing.{FitsHead, head_word, page_of, tally_of}
-use Rattle.gh_base.specs.Rows.{alloc_words, mark_words, page_words, Row, row_bit}
+use Rattle.gh_sweep.specs.Vocabulary.{alloc_words, Body, Cell, FitsHead, Free, Head, head_word, Layout, mark_words, page_of, page_words, PageWord, Row, row_bit, seats_of, SpanHead, tally_of, Words}
 use Rattle.gh_sweep.specs.Bits.{freed_in, kept_in, sum_below}
 use Rattle.gh_sweep.specs.Counts.{AreWords}
 use Rattle.gh_sweep.specs.Listing.{slot_bytes}
@@ -20,7 +13,7 @@ pub record CycleEnd : Type 0 where
   pub since : ℕ → Bool
 
 abbrev pub generation_of : CycleEnd → ℕ
-generation_of e = e.words cell.Gen
+generation_of e = e.words Cell.Gen
 
 abbrev pub alloc_at : CycleEnd → Row
 alloc_at e = alloc_words e.words
@@ -80,10 +73,10 @@ pub record View : Type 0 where
 
 abbrev pub view : Shared → View
 view s = record {
-  generation = s.words cell.Gen;
-  heap = s.words cell.Heap;
-  tally = s.words cell.Tally;
-  live = s.words cell.Live;
+  generation = s.words Cell.Gen;
+  heap = s.words Cell.Heap;
+  tally = s.words Cell.Tally;
+  live = s.words Cell.Live;
   page = page_words s.words;
   alloc = alloc_words s.words;
   mark = mark_words s.words;
@@ -284,6 +277,6 @@ pub record HasEnded (e : CycleEnd) : Type 0 where
   -- marked objects stand, and are of since
   pub stand : StandGood (marks_at e) (alloc_at e)
   pub known : KnownGood (marks_at e) e.since
-  pub tally : e.words cell.Tally ≡ 0
-  pub live : e.words cell.Live ≡ 0
-  pub heap : e.words cell.Heap ≡ placed (alloc_at e) e.slot (bit_words_of e)
+  pub tally : e.words Cell.Tally ≡ 0
+  pub live : e.words Cell.Live ≡ 0
+  pub heap : e.words Cell.Heap ≡ placed (alloc_at e) e.slot (bit_words_of e)

@@ -1,11 +1,7 @@
 -- That a slot of a swept span is clear is told by the number of the objects that were kept.
 use Rattle.std.specs.Prelude.{◌≡◌, ℕ, ◌+◌, ◌*◌, ◌<◌, true, false}
-use Rattle.gh_base.specs.Cells.{Words}
-use Rattle.gh_base.specs.Rows.{alloc_words, Row, row_bit}
-use Rattle.gh_class.specs.declared.class.SizeClass.TheVariants.{Small}
+use Rattle.gh_sweep.specs.Vocabulary.{alloc_words, pages_of, Row, row_bit, slot_words_of, slots_of, Small, SweptSpan, Words}
 use Rattle.gh_class.specs.declared.class.TheConstants.{CLASSES}
-use Rattle.gh_class.specs.Classes.{pages_of, slot_words_of, slots_of}
-use Rattle.gh_sweep.specs.declared.sweep.SweptSpan.{SweptSpan}
 use Rattle.gh_sweep.specs.Counts.{AreWords}
 use Rattle.gh_sweep.specs.Facts.{IsSweptNow}
 use Rattle.gh_sweep.specs.Listing.{Sweeping}

@@ -1,11 +1,6 @@
 -- What the routine knows of its own numbers, whatever it is told.
 use Rattle.std.specs.Prelude.{ℕ, ◌+◌, ◌*◌, ◌^◌, ◌<◌, ◌≤◌}
-use Rattle.gh_base.specs.declared.layout.Layout.{Layout}
-use Rattle.gh_base.specs.declared.pack.SpanHead.{SpanHead}
-use Rattle.gh_base.specs.Packing.{FitsHead}
-use Rattle.gh_sweep.specs.declared.sweep.SweepStage.{SweepStage}
-use Rattle.gh_sweep.specs.declared.sweep.SweepStage.TheVariants.{Begin, LoadMarks, ClearBits, ClearMarks, AddTally, AddLive, AddHeap, Finish, Ended}
-use Rattle.gh_sweep.specs.declared.sweep.Sweep.{Sweep}
+use Rattle.gh_sweep.specs.Vocabulary.{AddHeap, AddLive, AddTally, Begin, ClearBits, ClearMarks, Ended, Finish, FitsHead, Layout, LoadMarks, SpanHead, Sweep, SweepStage}
 
 -- the span's words of alloc bits, and as many of mark bits
 abbrev pub bit_words : SpanHead → ℕ

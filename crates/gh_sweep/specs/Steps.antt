@@ -1,16 +1,7 @@
 -- The steps of a sweep, whatever it is told.
 use Rattle.std.specs.Prelude.{◌≡◌, ◌≢◌, ℕ, ◌+◌, ◌*◌, ◌^◌, ◌<◌, ◌≤◌, ◌⊎◌, ◌↔◌, nat_lt}
-use Rattle.gh_base.specs.declared.cell.Cell.TheVariants as cell
-use Rattle.gh_base.specs.declared.cell.Ask.TheVariants.{Load, Store, And, Add, Swap}
-use Rattle.gh_base.specs.declared.layout.Layout.{Layout}
-use Rattle.gh_base.specs.declared.pack.SpanHead.{SpanHead}
-use Rattle.gh_base.specs.Packing.{head_word}
-use Rattle.gh_base.specs.Machines.{steps_of}
-use Rattle.gh_base.specs.Routines.{EndsWith, EndsWithin, told}
+use Rattle.gh_sweep.specs.Vocabulary.{Add, And, Cell, EndsWith, EndsWithin, head_word, Layout, Load, Lost, SpanHead, steps_of, Store, Swap, SweepEnd, Swept, SweptSpan, told}
 use Rattle.gh_base.specs.Routines as routine
-use Rattle.gh_sweep.specs.declared.sweep.SweepEnd.{SweepEnd}
-use Rattle.gh_sweep.specs.declared.sweep.SweepEnd.TheVariants.{Lost, Swept}
-use Rattle.gh_sweep.specs.declared.sweep.SweptSpan.{SweptSpan}
 use Rattle.gh_sweep.specs.Bits.{freed_in, kept_in, sum_below}
 use Rattle.gh_sweep.specs.Listing.{asks, bit_words, in_sweep, listing, negative, once_swept, opening, slot_bytes, slots_in, Sweeping}
 
@@ -59,16 +50,16 @@ module _ (l : Layout) (page : ℕ) (head : SpanHead) (found : ℕ → ℕ) where
 
   -- the three steps for a word of the span's bits
   pub record StepsOnWord (i : ℕ) : Type 0 where
-    pub loads_marks : asks l (after (1 + 3 * i)) ≡ Load (cell.Mark (16 * page + i))
-    pub clears_bits : asks l (after (2 + 3 * i)) ≡ And (cell.Alloc (16 * page + i)) (marks_told found i)
-    pub clears_marks : asks l (after (3 + 3 * i)) ≡ Store (cell.Mark (16 * page + i)) 0
+    pub loads_marks : asks l (after (1 + 3 * i)) ≡ Load (Cell.Mark (16 * page + i))
+    pub clears_bits : asks l (after (2 + 3 * i)) ≡ And (Cell.Alloc (16 * page + i)) (marks_told found i)
+    pub clears_marks : asks l (after (3 + 3 * i)) ≡ Store (Cell.Mark (16 * page + i)) 0
 
   -- the last four steps
   pub record StepsOnCounts : Type 0 where
-    pub adds_tally : asks l (after (steps_on_bits head)) ≡ Add cell.Tally (kept + 2 ^ 32 * freed)
-    pub adds_live : asks l (after (steps_on_bits head + 1)) ≡ Add cell.Live (kept * slot_bytes head)
-    pub adds_heap : asks l (after (steps_on_bits head + 2)) ≡ Add cell.Heap (negative (freed * slot_bytes head))
-    pub finishes : asks l (after (steps_on_bits head + 3)) ≡ Store (cell.Page page) (head_word (once_swept head))
+    pub adds_tally : asks l (after (steps_on_bits head)) ≡ Add Cell.Tally (kept + 2 ^ 32 * freed)
+    pub adds_live : asks l (after (steps_on_bits head + 1)) ≡ Add Cell.Live (kept * slot_bytes head)
+    pub adds_heap : asks l (after (steps_on_bits head + 2)) ≡ Add Cell.Heap (negative (freed * slot_bytes head))
+    pub finishes : asks l (after (steps_on_bits head + 3)) ≡ Store (Cell.Page page) (head_word (once_swept head))
 
   abbrev pub GoesOn : ℕ → Type 0
   GoesOn = routine.GoesOn (steps_of l (listing l)) (opening page head) found
@@ -78,7 +69,7 @@ module _ (l : Layout) (page : ℕ) (head : SpanHead) (found : ℕ → ℕ) where
   EndsBy n end = GoesOn n × EndsWith (steps_of l (listing l)) (opening page head) found n end
 
   pub record SweepsAsTold : Type 0 where
-    pub begins : asks l (after 0) ≡ Swap (cell.Page page) (head_word head) (head_word (in_sweep head))
+    pub begins : asks l (after 0) ≡ Swap (Cell.Page page) (head_word head) (head_word (in_sweep head))
     -- it is lost exactly by its first step, and exactly where that found another word
     pub lost : (n : ℕ) → EndsBy n Lost ↔ ((n ≡ 0) × (found 0 ≢ head_word head))
     -- else it takes these steps, and no other

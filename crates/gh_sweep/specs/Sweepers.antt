@@ -1,16 +1,11 @@
 -- A sweep among other actors: what its stage stands for, what it relies on, and that its steps are moves that it may make.
 use Rattle.std.specs.Prelude.{◌≡◌, ◌≢◌, ℕ, ◌+◌, ◌*◌, ◌<◌, ◌↔◌, Bool, true, false, if◌then◌else◌}
-use Rattle.gh_base.specs.declared.cell.Cell.TheVariants.{Page, Touch}
-use Rattle.gh_base.specs.declared.pack.PageWord.TheVariants.{Head}
-use Rattle.gh_base.specs.Cells.{seats_of}
-use Rattle.gh_base.specs.Packing.{page_of}
-use Rattle.gh_base.specs.Steps.{cell_of, effect}
+use Rattle.gh_sweep.specs.Vocabulary.{AddHeap, AddLive, AddTally, Begin, cell_of, ClearBits, ClearMarks, effect, Ended, Finish, Head, Load, LoadMarks, Page, page_of, seats_of, SpanHead, SweepStage, Touch}
 use Rattle.gh_sweep.specs.Facts.{Facts, IsPlaced}
 use Rattle.gh_sweep.specs.Listing.{asks, goes, is_busy, opening, slot_bytes, Sweeping, wrote}
 use Rattle.gh_sweep.specs.Moves.{Clears, Cuts, Ends, Lands, Move, OthersLeave, Quiet, Starts, Sweeps, TellsHeap, TellsLive, TellsTally}
 use Rattle.gh_sweep.specs.Shared.{By, CycleEnd, Due, generation_of, Good, HasEnded, nothing_due, Shared, view}
 use Rattle.gh_sweep.specs.Sound.{reached}
-use Rattle.gh_sweep.specs.Vocabulary.{AddHeap, AddLive, AddTally, Begin, ClearBits, ClearMarks, Ended, Finish, Load, LoadMarks, SpanHead, SweepStage}
 
 -- it has its span: it has begun, and not ended
 abbrev pub has_span : SweepStage → Bool

@@ -1,9 +1,7 @@
 -- The entries of one actor, and of some actors.
 use Rattle.std.proofs.Common.{◌≡◌, ◌≢◌, ℕ, ◌==◌, Bool, true, false, cond, List, [], ◌∷◌, ◌++◌, refl, sym, ap, ◌∙◌, eq-eqb, ne_eqb, ◌||◌, true≢false, arith}
 use Rattle.std.proofs.lemmas.Bool.{eqb-true}
-use Rattle.gh_base.specs.declared.machine.Entry.{Entry}
-use Rattle.gh_base.specs.Lists.{Kind, by, state_of}
-use Rattle.gh_table.specs.Views.{has, of_others, of_these, without}
+use Rattle.gh_table.proofs.Vocabulary.{by, Entry, has, Kind, of_others, of_these, state_of, without}
 
 pub has-append : (xs ys : List ℕ) (a : ℕ) → has (xs ++ ys) a ≡ (has xs a || has ys a)
 has-append [] ys a = refl

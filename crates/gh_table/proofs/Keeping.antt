@@ -1,22 +1,9 @@
 -- Each step keeps the rule.
-use Rattle.std.proofs.Common.{◌≡◌, ◌≢◌, ℕ, zero, suc, ◌<◌, ◌==◌, Bool, true, false, cond, List, [], ◌∷◌, ◌++◌, length, set, refl, sym, ap, ◌∙◌, subst, ⊎_elim, Option, ◌||◌, true≢false, arith}
-use Rattle.std.specs.Prelude.{slice_index, slice_set}
+use Rattle.std.proofs.Common.{◌≡◌, ◌≢◌, ℕ, zero, suc, ◌<◌, ◌==◌, Bool, true, false, cond, List, [], ◌∷◌, ◌++◌, length, set, refl, sym, ap, ◌∙◌, subst, ⊎_elim, Option, ◌||◌, true≢false, arith, slice_index, slice_set}
 use Rattle.std.proofs.lemmas.List.{append-nil, set-get_or}
-use mathlib.Core.Option.{some, some-ne-none, some-injective}
-use lib.ListN.{get_elem?}
-use prog.Atomic.{either}
-use Rattle.atomic_table.specs.Table.{State, Me, Allows, Splits, Joins, keeps, opening, Final, Seen}
+use Rattle.gh_table.proofs.Vocabulary.{all_carried, Allows, Ask, BeganAsEach, by, Carries, cell_of, changed, effect, either, Entry, entry, Final, Fits, get_elem?, has, HoldsOneList, InRange, IsAfterOneList, IsLaidOut, joined, Joins, keeps, Layout, leaving, Legal, length_of, MayAsk, MayFollow, Me, NoSeatCarries, of_others, of_these, Once, opening, request, request_leaves, Seen, Setting, ShowsCells, some, some-injective, some-ne-none, spent, Splits, State, staying, StepsAreShown, target, Tells, TellsOnce, View, with_entry, words_after, WordsAreBelow}
 use Rattle.atomic_table.proofs.Lists.{at_set, set_again}
-use Rattle.gh_base.specs.declared.cell.Ask.{Ask}
 use Rattle.gh_base.specs.declared.cell.Req.{Req}
-use Rattle.gh_base.specs.declared.layout.Layout.{Layout}
-use Rattle.gh_base.specs.declared.machine.Entry.{Entry}
-use Rattle.gh_base.specs.Cells.{InRange, length_of, ShowsCells, WordsAreBelow}
-use Rattle.gh_base.specs.Lists.{Setting, by, Legal, MayFollow, words_after}
-use Rattle.gh_base.specs.Steps.{cell_of, changed, effect, request, request_leaves, StepsAreShown, target}
-use Rattle.gh_table.specs.declared.plan.View.{View}
-use Rattle.gh_table.specs.Rule.{Fits, HoldsOneList, IsAfterOneList, IsLaidOut, MayAsk, NoSeatCarries, Tells, TellsOnce}
-use Rattle.gh_table.specs.Views.{all_carried, BeganAsEach, Carries, entry, has, joined, leaving, of_others, of_these, Once, spent, staying, with_entry}
 use Rattle.gh_table.proofs.Seats.{at_end, bool_cases, has_from, has_head, has_neither, has_one, has_tail, moved, moved-else, moved-here, none_before, none_last, none_left, once_append, once_from, once_without, or_left_false, or_right, or_right_false, set_else, set_here, taken, taken-in, taken-out}
 use Rattle.gh_table.proofs.Entries.{Settles, by-else, by-append, by-by, by-these, by-these-out, by-others, by-others-out, has-append, has-without}
 

@@ -2,3 +2,4 @@ pub mod Entries
 pub mod Keeping
 pub mod Running
 pub mod Seats
+pub mod Vocabulary

@@ -1,16 +1,7 @@
 -- What a step leaves.
-use Rattle.std.proofs.Common.{◌≡◌, ◌≢◌, ◌⊎◌, ℕ, zero, suc, ◌+◌, ◌-◌, ◌<◌, ◌≤◌, ◌==◌, Bool, true, false, cond, List, [], ◌∷◌, ◌++◌, length, refl, sym, ap, ◌∙◌, subst, Option, Some, None, inl, inr, ⊎_elim, eq-eqb, ne_eqb, true≢false, ◌||◌, arith}
+use Rattle.std.proofs.Common.{◌≡◌, ◌≢◌, ◌⊎◌, ℕ, zero, suc, ◌+◌, ◌-◌, ◌<◌, ◌≤◌, ◌==◌, Bool, true, false, cond, List, [], ◌∷◌, ◌++◌, length, refl, sym, ap, ◌∙◌, subst, Option, Some, None, inl, inr, ⊎_elim, eq-eqb, ne_eqb, true≢false, ◌||◌, arith, IsNone, ◌↔◌}
 use Rattle.std.proofs.lemmas.List.{append_assoc}
-use Rattle.std.specs.Prelude.{IsNone, ◌↔◌}
-use Rattle.atomic_table.specs.Table.{Me}
-use Rattle.gh_base.specs.declared.cell.Ask.{Ask}
-use Rattle.gh_base.specs.declared.machine.Entry.{Entry}
-use Rattle.gh_base.specs.Lists.{Setting}
-use Rattle.gh_base.specs.Routines.{EndsWithin, Listing, told}
-use Rattle.gh_table.specs.declared.plan.View.{View}
-use Rattle.gh_table.specs.Rule.{Tells}
-use Rattle.gh_table.specs.Views.{BeganAs, BeganAsEach, entry, leaving, numbers_from, one_carried, rest_carried, staying, with_entry, without}
-use Rattle.gh_table.specs.Runs.{machine_after, WentOn, SawLegalList, begun_next, Ran}
+use Rattle.gh_table.proofs.Vocabulary.{Ask, BeganAs, BeganAsEach, begun_next, EndsWithin, Entry, entry, leaving, Listing, machine_after, Me, numbers_from, one_carried, Ran, rest_carried, SawLegalList, Setting, staying, Tells, told, View, WentOn, with_entry, without}
 use Rattle.gh_table.proofs.Keeping.{seen_more}
 
 module _ {O : Type 0} where

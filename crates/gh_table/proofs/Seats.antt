@@ -1,11 +1,7 @@
 -- Lists of views and of actors: what a change of one view, and a view that comes, leave; and who owns an actor then.
 use Rattle.std.proofs.Common.{◌≡◌, ◌≢◌, ◌⊎◌, ℕ, zero, suc, ◌+◌, ◌<◌, ◌==◌, Bool, true, false, cond, List, [], ◌∷◌, ◌++◌, length, set, refl, sym, ap, ◌∙◌, subst, inl, inr, ⊎_elim, eq-eqb, ne_eqb, ◌||◌, true≢false, arith}
 use Rattle.std.proofs.lemmas.Bool.{eqb-true}
-use mathlib.Core.Option.{some, some-ne-none, some-injective}
-use lib.ListN.{get_elem?}
-use Rattle.gh_table.specs.declared.plan.View.{View}
-use Rattle.gh_table.specs.Rule.{NoSeatCarries}
-use Rattle.gh_table.specs.Views.{has, numbers_from, Once, without}
+use Rattle.gh_table.proofs.Vocabulary.{get_elem?, has, NoSeatCarries, numbers_from, Once, some, some-injective, some-ne-none, View, without}
 use Rattle.gh_table.proofs.Entries.{has-append, has-without}
 
 pub at_end : {A : Type 0} (l : List A) (a b : A) (j : ℕ) → get_elem? (l ++ a ∷ []) j ≡ some b → (get_elem? l j ≡ some b) ⊎ ((j ≡ length l) × (a ≡ b))

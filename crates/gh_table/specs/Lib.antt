@@ -1,3 +1,4 @@
 pub mod Rule
 pub mod Runs
 pub mod Views
+pub mod Vocabulary

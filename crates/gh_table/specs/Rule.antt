@@ -2,14 +2,10 @@
 use Rattle.std.specs.Prelude.{◌≡◌, ℕ, ◌<◌, true, false, ◌⊎◌, List, [], ◌∷◌, Option, Some, None}
 use mathlib.Core.Option.{some}
 use lib.ListN.{get_elem?}
-use Rattle.atomic_table.specs.Table.{State, Me}
-use Rattle.gh_base.specs.declared.cell.Ask.{Ask}
+use Rattle.gh_table.specs.Vocabulary.{Ask, by, Entry, Legal, Me, Setting, started, State, state_of, View, words_after}
 use Rattle.gh_base.specs.declared.layout.Layout.{Layout}
-use Rattle.gh_base.specs.declared.machine.Entry.{Entry}
 use Rattle.gh_base.specs.Blind.{is_store}
 use Rattle.gh_base.specs.Cells.{length_of, ShowsCells}
-use Rattle.gh_base.specs.Lists.{by, Legal, Setting, started, state_of, words_after}
-use Rattle.gh_table.specs.declared.plan.View.{View}
 use Rattle.gh_table.specs.Views.{BeganAsEach, Carries, entry, has, Once, with_entry}
 
 -- ---- the rule

@@ -1,10 +1,6 @@
 -- What an actor does by itself, given what its steps found, the newest first.
 use Rattle.std.specs.Prelude.{◌≡◌, ℕ, Bool, true, List, [], ◌∷◌, ◌++◌, Option, Some, None}
-use Rattle.atomic_table.specs.Table.{Me}
-use Rattle.gh_base.specs.declared.cell.Ask.{Ask}
-use Rattle.gh_base.specs.declared.machine.Entry.{Entry}
-use Rattle.gh_base.specs.Lists.{by, Legal, Setting}
-use Rattle.gh_table.specs.declared.plan.View.{View}
+use Rattle.gh_table.specs.Vocabulary.{Ask, by, Entry, Legal, Me, Setting, View}
 use Rattle.gh_table.specs.Views.{BeganAsEach, entry}
 
 -- the operation that stands at the next step, where b was begun before the first

@@ -1,9 +1,6 @@
 -- What a seat knows, and what becomes of it where a seat is split or two are joined.
 use Rattle.std.specs.Prelude.{◌≡◌, ℕ, zero, suc, ◌==◌, Bool, true, false, if◌then◌else◌, List, [], ◌∷◌, ◌++◌, Option}
-use Rattle.gh_base.specs.declared.cell.Ask.{Ask}
-use Rattle.gh_base.specs.declared.machine.Entry.{Entry}
-use Rattle.gh_base.specs.Lists.{by}
-use Rattle.gh_table.specs.declared.plan.View.{View}
+use Rattle.gh_table.specs.Vocabulary.{Ask, by, Entry, View}
 
 -- ---- lists of actors
 

@@ -1,23 +1,9 @@
 -- How a call ends, by what it found.
 use Rattle.std.proofs.Common.{◌≡◌, ℕ, Bool, false, ◌⊎◌, ◌++◌, ◌*◌, ◌/◌, List, Some, refl, sym, ap, ap₂, subst, ◌∙◌, arith}
-use Rattle.std.specs.List.{concat}
 use Rattle.std.proofs.lemmas.List.{append-nil}
-use Rattle.gh_lines.specs.Text.{Outcome, live_line, outcome_lines, statements_line}
+use Rattle.gh_top.proofs.Vocabulary.{AreRefused, BadScript, BadWords, ComesTo, command_line, concat, Ends, Found, FoundIsWritten, Gen, Generated, IsCutOff, IsForThreads, IsFound, IsRan, IsReplayed, IsSilent, IsUnfinished, Line, live_line, Matches, MatchesLine, NoMemory, NotBoth, NoThread, Outcome, outcome_lines, OutOfTurns, Program, Ran, ReadFault, ReadsScript, Refused, Replay, replay_text, Run, said_of, Says, Soak, Soaked, Spells, statements_line, Status, status_of, Streams, TellsInFull, Text}
 use Rattle.gh_replay.specs.Plan.{Plan}
-use Rattle.gh_replay.specs.Replayed.{IsReplayed, IsUnfinished, NotBoth}
-use Rattle.gh_replay.specs.Report.{replay_text}
 use Rattle.gh_script.specs.declared.fault.Why.{Why}
-use Rattle.gh_script.specs.Program.{Program}
-use Rattle.gh_script.specs.Grammar.{Spells, Refused}
-use Rattle.gh_command.specs.declared.line.Line.{Line}
-use Rattle.gh_command.specs.declared.line.Line.TheVariants.{Gen, Replay, Run, Soak}
-use Rattle.gh_top.specs.declared.status.Status.{Status}
-use Rattle.gh_top.specs.declared.status.Status.TheVariants as statuses
-use Rattle.gh_top.specs.declared.found.Found.{Found}
-use Rattle.gh_top.specs.declared.found.Found.TheVariants.{BadWords, BadScript, Ran, OutOfTurns, Generated, Soaked, ReadFault, NoThread, NoMemory}
-use Rattle.gh_command.specs.CommandLine.{Text, command_line}
-use Rattle.gh_top.specs.Outcome.{AreRefused, ComesTo, Ends, IsForThreads, ReadsScript, Says, Streams, TellsInFull}
-use Rattle.gh_top.specs.Found.{FoundIsWritten, IsCutOff, IsFound, IsRan, IsSilent, Matches, MatchesLine, said_of, status_of}
 
 -- ---- what was found may be said
 
@@ -78,11 +64,11 @@ for_words words text line f is m = grind arith
 
 module _ (not_both : (text : List ℕ) (p : Program) (line : ℕ) (why : Why) → Spells text p → Refused text line why → ⊥) where
   replayed-ends : (text : List ℕ) (plan : Plan) (budget : ℕ) (check : Bool) (p : Program) (f : Found) → MatchesLine (Replay plan budget check) text f → (f ≡ ReadFault → ⊥) → Spells text p
-      → (status_of f ≡ statuses.Ok) ⊎ (status_of f ≡ statuses.OutOfTurns) ⊎ (status_of f ≡ statuses.NoMemory)
+      → (status_of f ≡ Status.Ok) ⊎ (status_of f ≡ Status.OutOfTurns) ⊎ (status_of f ≡ Status.NoMemory)
   replayed-ends text plan budget check p f m read spelled = grind arith
 
   abbrev IsRefusedSo : Found → Type 0
-  IsRefusedSo f = (status_of f ≡ statuses.BadScript) ⊎ (status_of f ≡ statuses.NoMemory)
+  IsRefusedSo f = (status_of f ≡ Status.BadScript) ⊎ (status_of f ≡ Status.NoMemory)
 
   -- a text that is refused, for words that read it
   refused-ends : (words : List Text) (text : List ℕ) (line : ℕ) (why : Why) (f : Found) → Matches words text f → ReadsScript words → (f ≡ ReadFault → ⊥) → Refused text line why → IsRefusedSo f
@@ -90,7 +76,7 @@ module _ (not_both : (text : List ℕ) (p : Program) (line : ℕ) (why : Why) �
 
 module _ (one_script : (text : List ℕ) (p q : Program) → Spells text p → Spells text q → p ≡ q) (never : NotBoth) where
   -- a run that ends within the budget is not out of turns
-  replayed-tells : (text : List ℕ) (plan : Plan) (budget : ℕ) (check : Bool) (p : Program) (outcome : Outcome) (f : Found) → MatchesLine (Replay plan budget check) text f → Spells text p → IsReplayed p plan budget outcome → status_of f ≡ statuses.OutOfTurns → ⊥
+  replayed-tells : (text : List ℕ) (plan : Plan) (budget : ℕ) (check : Bool) (p : Program) (outcome : Outcome) (f : Found) → MatchesLine (Replay plan budget check) text f → Spells text p → IsReplayed p plan budget outcome → status_of f ≡ Status.OutOfTurns → ⊥
   replayed-tells text plan budget check p outcome (OutOfTurns n) m spelled r e =
       never p plan budget outcome r (subst (λ (q : Program). IsUnfinished q plan budget) (one_script text m.1 p m.2 spelled) m.3)
   replayed-tells text plan budget check p outcome BadWords m spelled r e = absurd m
@@ -103,7 +89,7 @@ module _ (one_script : (text : List ℕ) (p q : Program) → Spells text p → S
   replayed-tells text plan budget check p outcome NoMemory m spelled r e = absurd cc
 
   -- and one that does not is not told
-  unfinished-tells : (text : List ℕ) (plan : Plan) (budget : ℕ) (check : Bool) (p : Program) (f : Found) → MatchesLine (Replay plan budget check) text f → Spells text p → IsUnfinished p plan budget → status_of f ≡ statuses.Ok → ⊥
+  unfinished-tells : (text : List ℕ) (plan : Plan) (budget : ℕ) (check : Bool) (p : Program) (f : Found) → MatchesLine (Replay plan budget check) text f → Spells text p → IsUnfinished p plan budget → status_of f ≡ Status.Ok → ⊥
   unfinished-tells text plan budget check p (Ran q report) m spelled u e =
       never p plan budget report.outcome (subst (λ (x : Program). IsReplayed x plan budget report.outcome) (one_script text q p m.0 spelled) m.1) u
   unfinished-tells text plan budget check p BadWords m spelled u e = absurd m
@@ -117,14 +103,14 @@ module _ (one_script : (text : List ℕ) (p q : Program) → Spells text p → S
 
 -- ---- words that read no script
 
-generated-ends : (text : List ℕ) (seed size : ℕ) (f : Found) → MatchesLine (Gen seed size) text f → (status_of f ≡ statuses.Ok) ⊎ (status_of f ≡ statuses.NoMemory)
+generated-ends : (text : List ℕ) (seed size : ℕ) (f : Found) → MatchesLine (Gen seed size) text f → (status_of f ≡ Status.Ok) ⊎ (status_of f ≡ Status.NoMemory)
 generated-ends text seed size f m = grind arith
 
-refused-words : (words : List Text) (text : List ℕ) (f : Found) → Matches words text f → AreRefused words → (status_of f ≡ statuses.BadWords) ⊎ (status_of f ≡ statuses.NoMemory)
+refused-words : (words : List Text) (text : List ℕ) (f : Found) → Matches words text f → AreRefused words → (status_of f ≡ Status.BadWords) ⊎ (status_of f ≡ Status.NoMemory)
 refused-words words text f m refused = grind arith
 
 -- what is told of words that read a script was run
-run-if : (words : List Text) (text : List ℕ) (f : Found) → Matches words text f → ReadsScript words → status_of f ≡ statuses.Ok → IsRan f
+run-if : (words : List Text) (text : List ℕ) (f : Found) → Matches words text f → ReadsScript words → status_of f ≡ Status.Ok → IsRan f
 run-if words text f m reads e = grind arith
 
 -- ---- what a status says of what was found
@@ -132,7 +118,7 @@ run-if words text f m reads e = grind arith
 abbrev IsOf : (Found → Type 0) → Status → Found → Type 0
 IsOf P s f = status_of f ≡ s → P f
 
-refused-if : (words : List Text) (text : List ℕ) (f : Found) → Matches words text f → IsOf (λ g. AreRefused words) statuses.BadWords f
+refused-if : (words : List Text) (text : List ℕ) (f : Found) → Matches words text f → IsOf (λ g. AreRefused words) Status.BadWords f
 refused-if words text BadWords m e = m
 refused-if words text (BadScript fault) m e = absurd cc
 refused-if words text (Ran p report) m e = absurd cc
@@ -143,7 +129,7 @@ refused-if words text ReadFault m e = absurd cc
 refused-if words text NoThread m e = absurd cc
 refused-if words text NoMemory m e = absurd cc
 
-read-if : (f : Found) → IsOf (λ g. g ≡ ReadFault) statuses.ReadFault f
+read-if : (f : Found) → IsOf (λ g. g ≡ ReadFault) Status.ReadFault f
 read-if ReadFault e = refl
 read-if BadWords e = absurd cc
 read-if (BadScript fault) e = absurd cc
@@ -154,7 +140,7 @@ read-if (Soaked n objects bytes) e = absurd cc
 read-if NoThread e = absurd cc
 read-if NoMemory e = absurd cc
 
-pub thread-if : (f : Found) → IsOf (λ g. g ≡ NoThread) statuses.NoThread f
+pub thread-if : (f : Found) → IsOf (λ g. g ≡ NoThread) Status.NoThread f
 thread-if NoThread e = refl
 thread-if BadWords e = absurd cc
 thread-if (BadScript fault) e = absurd cc
@@ -168,7 +154,7 @@ thread-if NoMemory e = absurd cc
 thread-words : (words : List Text) (text : List ℕ) → Matches words text NoThread → IsForThreads words
 thread-words words text m = grind arith
 
-silent-memory : (f : Found) → IsOf IsSilent statuses.NoMemory f
+silent-memory : (f : Found) → IsOf IsSilent Status.NoMemory f
 silent-memory NoMemory e = tt
 silent-memory BadWords e = absurd cc
 silent-memory (BadScript fault) e = absurd cc
@@ -179,7 +165,7 @@ silent-memory (Soaked n objects bytes) e = absurd cc
 silent-memory ReadFault e = tt
 silent-memory NoThread e = tt
 
-never-write : (f : Found) → status_of f ≡ statuses.WriteFault → ⊥
+never-write : (f : Found) → status_of f ≡ Status.WriteFault → ⊥
 never-write f e = grind arith
 
 -- ---- all of it

@@ -3,3 +3,4 @@ pub mod Lines
 pub mod Ends
 pub mod Soaking
 pub mod Reading
+pub mod Vocabulary

@@ -1,12 +1,10 @@
 -- Lines, one after the other.
 use Rattle.std.proofs.Common.{◌≡◌, ℕ, ◌+◌, List, [], ◌∷◌, ◌++◌, take, drop, Option, Some, Result, OnOk, OnErr, slice_get, sym, ap, subst, ◌∙◌, take-append-drop, arith}
-use Rattle.std.specs.List.{concat}
-use Rattle.std.specs.Io.KnownBytes.{Appends}
 use Rattle.std.proofs.KnownBytes.{Appends-trans}
 use Rattle.std.proofs.lemmas.List.{append-nil, take_more}
 use Rattle.std.proofs.lemmas.List.Folds.{concat-append}
 use Rattle.std.proofs.lemmas.Option.{get_or_from_slice_get, slice_get_within}
-use Rattle.gh_io.specs.Streams.{TookPart, PartOfFirstIsOfBoth, PartOfSecondIsOfBoth}
+use Rattle.gh_top.proofs.Vocabulary.{Appends, concat, PartOfFirstIsOfBoth, PartOfSecondIsOfBoth, TookPart}
 
 -- the lines up to line i, and line i
 one-more : (ls : List (List ℕ)) (i : ℕ) (line : List ℕ) → slice_get ls i ≡ Some line → concat (take (i + 1) ls) ≡ concat (take i ls) ++ line

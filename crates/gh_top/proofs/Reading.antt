@@ -1,11 +1,6 @@
 -- What is found for a line, without a look at the source, is found for the words that ask for it.
 use Rattle.std.proofs.Common.{◌≡◌, ℕ, List, [], Option, Some, arith}
-use Rattle.gh_command.specs.declared.line.Line.{Line}
-use Rattle.gh_command.specs.declared.line.Line.TheVariants.{Gen, Soak}
-use Rattle.gh_top.specs.declared.found.Found.{Found}
-use Rattle.gh_top.specs.declared.found.Found.TheVariants.{Ran, OutOfTurns, ReadFault}
-use Rattle.gh_command.specs.CommandLine.{Text, command_line}
-use Rattle.gh_top.specs.Found.{IsFound, IsRan, IsTellable, Matches, MatchesLine}
+use Rattle.gh_top.proofs.Vocabulary.{command_line, Found, Gen, IsFound, IsRan, IsTellable, Line, Matches, MatchesLine, OutOfTurns, Ran, ReadFault, Soak, Text}
 use Rattle.gh_top.proofs.Ends.{for_words}
 
 -- what is found without a look at the source

@@ -1,14 +1,8 @@
 -- Whichever run it is, a generated script's run by threads comes to one text.
 use Rattle.std.proofs.Common.{◌≡◌, ℕ, ◌*◌, ◌/◌, ◌++◌, List, sym, ap₂, subst, ◌∙◌, arith}
-use Rattle.std.specs.Io.KnownBytes.{Appends}
-use Rattle.gh_lines.specs.Text.{live_line, statements_line}
+use Rattle.gh_top.proofs.Vocabulary.{Appends, ComesTo, Ends, IsSoak, Line, live_line, Said, Soak, statements_line, Status, Streams, Text}
 use Rattle.gh_soak.specs.Soak.{WhatIsLiveIsOne}
-use Rattle.gh_command.specs.declared.line.Line.{Line}
-use Rattle.gh_command.specs.declared.line.Line.TheVariants.{Soak}
-use Rattle.gh_top.specs.declared.status.Status.{Status}
 use Rattle.gh_top.specs.declared.status.Status.TheVariants.{Ok}
-use Rattle.gh_command.specs.CommandLine.{Text}
-use Rattle.gh_top.specs.Outcome.{ComesTo, Ends, IsSoak, Said, Streams}
 use Rattle.gh_top.proofs.Ends.{same_line}
 
 one_text : WhatIsLiveIsOne → (seed size : ℕ) (text other written again : List ℕ) → ComesTo (Soak seed size) text Ok written → ComesTo (Soak seed size) other Ok again → written ≡ again

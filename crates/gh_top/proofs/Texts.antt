@@ -1,13 +1,7 @@
 -- From a text to the script that it spells.
-use Rattle.std.proofs.Common.{◌≡◌, ℕ, ◌+◌, ◌<◌, ◌≤◌, List, [], length, Option, Some, Result, arith}
-use Rattle.std.specs.Prelude.{IsOk}
-use Rattle.std.specs.Io.KnownBytes.{Consumes, IsAtEnd}
-use Rattle.gh_script.specs.declared.reading.TheConstants.{MOST_BYTES}
+use Rattle.std.proofs.Common.{◌≡◌, ℕ, ◌+◌, ◌<◌, ◌≤◌, List, [], length, Option, Some, Result, arith, IsOk}
+use Rattle.gh_top.proofs.Vocabulary.{Consumes, Found, IsAtEnd, IsScriptOf, MOST_BYTES, Program, reading_of, Spells}
 use Rattle.gh_script.specs.Limits.{most_bytes}
-use Rattle.gh_script.specs.Program.{Program}
-use Rattle.gh_script.specs.Grammar.{reading_of, Spells}
-use Rattle.gh_top.specs.declared.found.Found.{Found}
-use Rattle.gh_top.specs.Found.{IsScriptOf}
 
 -- A text that was read as far as a script may go is the whole text, or too long for a script: what it spells is spelled by any text that is read the same.
 pub script-same : (a b : List ℕ) (r : Result Program Found) → reading_of a ≡ reading_of b → IsScriptOf a r → IsScriptOf b r

@@ -1,23 +1,8 @@
 -- What a call has found before it writes anything.
 use Rattle.std.specs.Prelude.{◌≡◌, ℕ, ◌*◌, ◌/◌, ◌<◌, ◌≤◌, false, List, [], ◌++◌, Option, Some, Result, Ok, Err, IsOk}
-use Rattle.std.specs.Io.KnownBytes.{Appends}
-use Rattle.gh_io.specs.Counts.{Rose}
-use Rattle.gh_io.specs.Streams.{TookPart}
-use Rattle.gh_lines.specs.Text.{Outcome, live_line, refusal_line, statements_line, turns_line, words_refused_line}
-use Rattle.gh_replay.specs.Replayed.{IsReplayed, IsUnfinished}
-use Rattle.gh_replay.specs.Report.{is_checked, IsReportOf, replay_text}
-use Rattle.gh_run.specs.Told.{IsRunByThreads}
-use Rattle.gh_script.specs.Generated.{generated_program, generated_text}
-use Rattle.gh_script.specs.Program.{Program}
-use Rattle.gh_script.specs.Grammar.{Spells, Refused}
-use Rattle.gh_soak.specs.Soak.{AreLiveThen}
-use Rattle.gh_command.specs.declared.line.Line.{Line}
-use Rattle.gh_command.specs.declared.line.Line.TheVariants.{Gen, Replay, Run, Soak}
-use Rattle.gh_top.specs.declared.status.Status.{Status}
-use Rattle.gh_top.specs.declared.status.Status.TheVariants as statuses
+use Rattle.gh_top.specs.Vocabulary.{Appends, AreLiveThen, command_line, Gen, generated_program, generated_text, is_checked, IsReplayed, IsReportOf, IsRunByThreads, IsUnfinished, Line, live_line, Outcome, Program, refusal_line, Refused, Replay, replay_text, Rose, Run, Soak, Spells, statements_line, Status, TookPart, turns_line, words_refused_line}
 use Rattle.gh_top.specs.declared.found.Found.{Found}
 use Rattle.gh_top.specs.declared.found.Found.TheVariants.{BadWords, BadScript, Ran, OutOfTurns, Generated, Soaked, ReadFault, NoThread, NoMemory}
-use Rattle.gh_command.specs.CommandLine.{command_line}
 use Rattle.gh_top.specs.Outcome.{AreRefused}
 
 -- What was found is so for a line and the text: a script that was run is the one that the text spells, run as the line says, and a text that was refused spells none.
@@ -81,15 +66,15 @@ said_of _ = []
 
 -- how the call ends once that is written
 abbrev pub status_of : Found → Status
-status_of BadWords = statuses.BadWords
-status_of (BadScript f) = statuses.BadScript
-status_of (Ran p report) = statuses.Ok
-status_of (OutOfTurns n) = statuses.OutOfTurns
-status_of (Generated script) = statuses.Ok
-status_of (Soaked n objects bytes) = statuses.Ok
-status_of ReadFault = statuses.ReadFault
-status_of NoThread = statuses.NoThread
-status_of NoMemory = statuses.NoMemory
+status_of BadWords = Status.BadWords
+status_of (BadScript f) = Status.BadScript
+status_of (Ran p report) = Status.Ok
+status_of (OutOfTurns n) = Status.OutOfTurns
+status_of (Generated script) = Status.Ok
+status_of (Soaked n objects bytes) = Status.Ok
+status_of ReadFault = Status.ReadFault
+status_of NoThread = Status.NoThread
+status_of NoMemory = Status.NoMemory
 
 -- ---- what the parts of a call come to
 
@@ -121,7 +106,7 @@ pub record FoundIsWritten (found : Found) (taken taken_now : Option (List ℕ)) 
 
 -- a write of it failed
 pub record IsCutOff (found : Found) (taken taken_now : Option (List ℕ)) (faults faults_now : ℕ) (status : Status) : Type 0 where
-  pub so : status ≡ statuses.WriteFault
+  pub so : status ≡ Status.WriteFault
   pub loud : IsSilent found → ⊥
   pub part : TookPart taken taken_now (said_of found)
   pub failed : Rose faults faults_now

@@ -1,24 +1,10 @@
 -- What the program says: what it writes and how it ends, for the words that it is called with and the text that it reads.
 use Rattle.std.specs.Prelude.{◌≡◌, ◌⊎◌, ℕ, ◌*◌, ◌/◌, ◌<◌, ◌≤◌, Bool, List, [], ◌++◌, Option, Some, None}
 use Rattle.std.specs.List.{concat}
-use Rattle.std.specs.Io.KnownBytes.{Appends}
-use Rattle.gh_io.specs.Counts.{Rose}
-use Rattle.gh_io.specs.Streams.{TookPart}
-use Rattle.gh_lines.specs.Text.{Outcome, live_line, outcome_lines, refusal_line, statements_line, turns_line, words_refused_line}
+use Rattle.gh_top.specs.Vocabulary.{Appends, AreLiveThen, command_line, Gen, generated_program, generated_text, IsReplayed, IsRunByThreads, IsUnfinished, Line, live_line, Outcome, outcome_lines, Program, refusal_line, Refused, Replay, replay_text, Rose, Run, Soak, Spells, statements_line, Status, TookPart, turns_line, words_refused_line}
 use Rattle.gh_replay.specs.Plan.{Plan}
-use Rattle.gh_replay.specs.Replayed.{IsReplayed, IsUnfinished}
-use Rattle.gh_replay.specs.Report.{replay_text}
-use Rattle.gh_run.specs.Told.{IsRunByThreads}
 use Rattle.gh_script.specs.declared.fault.Why.{Why}
-use Rattle.gh_script.specs.Generated.{generated_program, generated_text}
-use Rattle.gh_script.specs.Program.{Program}
-use Rattle.gh_script.specs.Grammar.{Spells, Refused}
-use Rattle.gh_soak.specs.Soak.{AreLiveThen}
-use Rattle.gh_command.specs.declared.line.Line.{Line}
-use Rattle.gh_command.specs.declared.line.Line.TheVariants.{Gen, Replay, Run, Soak}
-use Rattle.gh_top.specs.declared.status.Status.{Status}
 use Rattle.gh_top.specs.declared.status.Status.TheVariants.{Ok, BadWords, BadScript, ReadFault, WriteFault, NoMemory, NoThread, OutOfTurns}
-use Rattle.gh_command.specs.CommandLine.{command_line}
 
 -- ---- the words
 

@@ -1,13 +1,8 @@
 -- A table after a write to its list, and tables of which a row stands for a pair.
 use Rattle.std.proofs.Common.{◌≡◌, ℕ, ◌+◌, ◌*◌, ◌<◌, ◌≤◌, sym, ◌∙◌, ap, inl, inr, List, length, get_or, arith, get_or-set_other, get_or-set_same}
-use Rattle.std.proofs.lemmas.List.{get_or_past}
-use Rattle.std.proofs.Math.ListN.{set}
-use mathlib.Core.Path.{fun_ext}
-use Rattle.std.proofs.lemmas.Bool.{cases_lt, cases_eq}
-use Rattle.std.proofs.lemmas.Bool.Decides.{nat_tests}
-use Rattle.std.proofs.lemmas.Nat.{same_from_place, mul-le}
-use Rattle.gh_tri.specs.Tables.{cells, by_three}
-use Rattle.gh_tri.specs.Tricolour.{put2, put3, put_row}
+use Rattle.std.proofs.lemmas.Bool.{cases_eq}
+use Rattle.std.proofs.lemmas.Nat.{mul-le}
+use Rattle.gh_tri.proofs.Vocabulary.{by_three, cases_lt, cells, fun_ext, get_or_past, nat_tests, put2, put3, put_row, same_from_place, set}
 use Rattle.gh_tri.proofs.Tells.{put2-tells, put3-tells}
 
 pub cells-in : {A : Type 0} (d : A) (n : ℕ) (xs : List A) (i j : ℕ) → j < n → cells d n xs i j ≡ get_or xs (i * n + j) d

@@ -1,7 +1,5 @@
 -- What leads from one picture to another keeps the invariants, whatever moves and changes it is made of.
-use Rattle.gh_tri.specs.Tricolour.{Tricolour}
-use Rattle.gh_tri.specs.Invariants.{Invariants, KeepsTheInvariants}
-use Rattle.gh_tri.specs.Changes.{ChangesKeepTheInvariants}
+use Rattle.gh_tri.proofs.Vocabulary.{ChangesKeepTheInvariants, Invariants, KeepsTheInvariants, Tricolour}
 use Rattle.gh_tri.specs.Steps.{Goes, stays, moves, changes, EachStepKeepsTheInvariants}
 
 module _ (by_move : KeepsTheInvariants) (by_change : ChangesKeepTheInvariants) where

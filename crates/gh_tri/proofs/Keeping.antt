@@ -1,13 +1,6 @@
 -- Every move keeps the invariants, and so does every list of moves; what they give once marking is done.
 use Rattle.std.proofs.Common.{◌≡◌, ◌≢◌, ℕ, ◌+◌, ◌<◌, true, sym, ◌∙◌, ap, inl, inr, ◌⊎◌, Option, Some, None, List, [], ◌∷◌, arith}
-use Rattle.std.proofs.lemmas.Bool.Decides.{eqb_tells}
-use Rattle.std.proofs.lemmas.Bool.{cases_lt}
-use Rattle.gh_tri.specs.declared.Colour.TheVariants.{White, Grey, Black}
-use Rattle.gh_tri.specs.declared.Move.{Move}
-use Rattle.gh_tri.specs.declared.Move.TheVariants.{Load, ReadOld, Shade, Store, ScanField, Blacken, Allocate, ScanRegister}
-use Rattle.gh_tri.specs.Tricolour.{Tricolour, put1, put_row, shaded, moved, MayLoad, MayStore, MayAllocate, IsMarked, IsGreyStack, IsBlackStack}
-use Rattle.gh_tri.specs.Invariants.{HasScanLeft, Invariants, IsMarkingDone, IsReachedInPicture, globals, held, field, after, EachMay, KeepsTheInvariants, Opens, MarkedWhatIsReached, EveryMoveKeepsTheInvariants, NoWhiteObjectIsReached}
-use Rattle.gh_tri.specs.Changes.{Drop, Copy, MayCopy, changed_picture, ChangesKeepTheInvariants}
+use Rattle.gh_tri.proofs.Vocabulary.{after, Allocate, Black, Blacken, cases_lt, changed_picture, ChangesKeepTheInvariants, Copy, Drop, EachMay, eqb_tells, EveryMoveKeepsTheInvariants, field, globals, Grey, HasScanLeft, held, Invariants, IsBlackStack, IsGreyStack, IsMarked, IsMarkingDone, IsReachedInPicture, KeepsTheInvariants, Load, MarkedWhatIsReached, MayAllocate, MayCopy, MayLoad, MayStore, Move, moved, NoWhiteObjectIsReached, Opens, put1, put_row, ReadOld, ScanField, ScanRegister, Shade, shaded, Store, Tricolour, White}
 use Rattle.gh_tri.proofs.Tells.{differ, put-tells, shaded-named, marked-tells}
 use Rattle.gh_tri.proofs.Protecting.{IsSafe, safe-field, none-protected}
 use Rattle.gh_tri.proofs.Steps.{keeps-register, keeps-read, keeps-shaded, keeps-value, keeps-scanned, keeps-black, keeps-made, keeps-seen}

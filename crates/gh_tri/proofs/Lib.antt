@@ -7,3 +7,4 @@ pub mod Cells
 pub mod Showing
 pub mod Opens
 pub mod Scanning
+pub mod Vocabulary

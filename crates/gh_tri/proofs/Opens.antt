@@ -1,20 +1,9 @@
 -- What the lists of an opening picture give: every triple is in range, and the picture opens.
-use Rattle.std.proofs.Common.{◌≡◌, ℕ, ◌+◌, ◌*◌, ◌<◌, ◌≤◌, Bool, true, false, refl, sym, ◌∙◌, ap, cond, inl, inr, ◌⊎◌, Option, Some, None, List, [], ◌∷◌, length, get_or, replicate, drop, arith}
-use Rattle.std.specs.Prelude.{◌&&◌, IsTrue, nat_lt}
+use Rattle.std.proofs.Common.{◌≡◌, ℕ, ◌+◌, ◌*◌, ◌<◌, ◌≤◌, Bool, true, false, refl, sym, ◌∙◌, ap, cond, inl, inr, ◌⊎◌, Option, Some, None, List, [], ◌∷◌, length, get_or, replicate, drop, arith, ◌&&◌, IsTrue, nat_lt}
 use Rattle.std.specs.List.{list_all}
-use mathlib.Core.Path.{fun_ext}
-use Rattle.std.proofs.lemmas.List.{get_or_past, drop_more}
-use Rattle.std.proofs.lemmas.Nat.{mul-add-lt}
+use Rattle.std.proofs.lemmas.List.{drop_more}
 use Rattle.std.proofs.lemmas.List.Folds.{list_all_at}
-use Rattle.std.proofs.Math.ListN.{get_or-replicate, length-replicate}
-use Rattle.std.proofs.lemmas.Bool.{cases_lt}
-use Rattle.std.proofs.lemmas.Bool.Decides.{nat_tests}
-use Rattle.gh_tri.specs.declared.Colour.{Colour}
-use Rattle.gh_tri.specs.declared.Colour.TheVariants.{White, Grey}
-use Rattle.gh_tri.specs.Tables.{cells, by_three}
-use Rattle.gh_tri.specs.Opening.{AreCells, AreObjects, put_in_table, opened_picture}
-use Rattle.gh_tri.specs.Tricolour.{put1, put2}
-use Rattle.gh_tri.specs.Invariants.{IsOpeningPicture}
+use Rattle.gh_tri.proofs.Vocabulary.{AreCells, AreObjects, by_three, cases_lt, cells, Colour, fun_ext, get_or-replicate, get_or_past, Grey, IsOpeningPicture, length-replicate, mul-add-lt, nat_tests, opened_picture, put1, put2, put_in_table, White}
 use Rattle.gh_tri.proofs.Tells.{put2-tells}
 use Rattle.gh_tri.proofs.Cells.{cells-in, cells-out, cells-past}
 use Rattle.gh_tri.proofs.Showing.{put2-made}

@@ -1,8 +1,6 @@
 -- What is marked or protected stays so, under any change that keeps to a few rules.
 use Rattle.std.proofs.Common.{◌≡◌, ◌≢◌, ℕ, ◌<◌, true, false, inl, inr, ◌⊎◌, arith}
-use Rattle.gh_tri.specs.declared.Colour.TheVariants.{White, Grey}
-use Rattle.gh_tri.specs.Tricolour.{Tricolour, IsMarked}
-use Rattle.gh_tri.specs.Invariants.{Edge, Protected, from_grey, from_global, from_white, Invariants}
+use Rattle.gh_tri.proofs.Vocabulary.{Edge, from_global, from_grey, from_white, Grey, Invariants, IsMarked, Protected, Tricolour, White}
 use Rattle.gh_tri.proofs.Tells.{colour-tells, marked-tells}
 
 abbrev pub IsSafe : Tricolour → ℕ → Type 0

@@ -1,12 +1,6 @@
 -- What the scans of the first n fields of an object leave, and those of the first n registers of a stack.
 use Rattle.std.proofs.Common.{◌≡◌, ℕ, zero, suc, ◌+◌, ◌<◌, ◌≤◌, Bool, true, refl, sym, ◌∙◌, ap, subst, inl, inr, List, [], ◌∷◌, ◌++◌, arith}
-use Rattle.std.proofs.lemmas.Bool.{cases_lt}
-use Rattle.std.proofs.lemmas.Bool.Decides.{nat_tests}
-use Rattle.gh_tri.specs.declared.Move.{Move}
-use Rattle.gh_tri.specs.declared.Move.TheVariants.{ScanField, Blacken, ScanRegister}
-use Rattle.gh_tri.specs.Tricolour.{Tricolour, put2, moved, IsField, IsStackRegister, MayBlacken}
-use Rattle.gh_tri.specs.Invariants.{after}
-use Rattle.gh_tri.specs.Runs.{field_scans, object_scan, register_scans}
+use Rattle.gh_tri.proofs.Vocabulary.{after, Blacken, cases_lt, field_scans, IsField, IsStackRegister, MayBlacken, Move, moved, nat_tests, object_scan, put2, register_scans, ScanField, ScanRegister, Tricolour}
 use Rattle.gh_tri.proofs.Tells.{put2-tells}
 
 -- one move more

@@ -1,21 +1,9 @@
 -- What the struct's tables keep over a write: each value names an object that is made.
-use Rattle.std.proofs.Common.{◌≡◌, ℕ, ◌+◌, ◌<◌, ◌≤◌, sym, ◌∙◌, ap, inl, inr, Option, Some, None, arith}
-use Rattle.gh_tri.specs.Tricolour.{Tricolour, put2, put3, put_row, moved, May}
-use Rattle.gh_tri.specs.declared.Move.TheVariants.{Store, ScanField, Allocate, ScanRegister}
-use Rattle.gh_tri.specs.declared.Move.{Move}
-use Rattle.gh_tri.specs.Invariants.{Invariants}
-use Rattle.gh_tri.proofs.Tells.{put2-tells}
-use Rattle.gh_tri.specs.Changes.{Change, changed_picture, MayChange}
+use Rattle.std.proofs.Common.{◌≡◌, ℕ, ◌+◌, ◌<◌, ◌≤◌, sym, ◌∙◌, ap, inl, inr, Option, Some, None, arith, subst, List, length, get_or-set_other, get_or-set_same, Bool, true}
+use Rattle.gh_tri.proofs.Vocabulary.{Allocate, Black, Change, changed_picture, Colour, fun_ext, Invariants, May, MayChange, Move, moved, put1, put2, put3, put_row, ScanField, ScanRegister, set, shaded, Store, Tricolour, White}
+use Rattle.gh_tri.proofs.Tells.{put2-tells, put-tells}
 use Rattle.gh_tri.proofs.Keeping.{keeps-moved, keeps-changed}
-use Rattle.std.proofs.Common.{subst, List, length, get_or-set_other, get_or-set_same}
-use Rattle.std.proofs.Math.ListN.{set}
-use mathlib.Core.Path.{fun_ext}
-use Rattle.gh_tri.specs.declared.Colour.{Colour}
-use Rattle.gh_tri.specs.declared.Colour.TheVariants.{White, Black}
-use Rattle.std.specs.Prelude.{Bool, true}
 use Rattle.gh_tri.specs.Colours.{colours_of}
-use Rattle.gh_tri.specs.Tricolour.{put1, shaded}
-use Rattle.gh_tri.proofs.Tells.{put-tells}
 
 pub put2-made : (f g : ℕ → ℕ → Option ℕ) (i j : ℕ) (v : Option ℕ) (n : ℕ) → g ≡ put2 f i j v → ((a b w : ℕ) → f a b ≡ Some w → w < n) → ((w : ℕ) → v ≡ Some w → w < n) → (a b w : ℕ) → g a b ≡ Some w → w < n
 put2-made f g i j v n e fs vs a b w h = elim (put2-tells f i j v a b) [

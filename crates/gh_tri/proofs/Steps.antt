@@ -1,9 +1,6 @@
 -- The changes that the eight moves are made of, each of which keeps the invariants.
 use Rattle.std.proofs.Common.{◌≡◌, ◌≢◌, ℕ, ◌+◌, ◌<◌, Bool, true, false, refl, sym, ◌∙◌, ap, subst, inl, inr, ◌⊎◌, Option, Some, None, arith}
-use Rattle.std.proofs.lemmas.Bool.Decides.{eqb_tells}
-use Rattle.gh_tri.specs.declared.Colour.TheVariants.{White, Black}
-use Rattle.gh_tri.specs.Tricolour.{Tricolour, put1, put2, put3, put_row, shaded, IsMarked, NilOrMarked, NilOrMade, IsBlackStack}
-use Rattle.gh_tri.specs.Invariants.{HasScanLeft, Invariants}
+use Rattle.gh_tri.proofs.Vocabulary.{Black, eqb_tells, HasScanLeft, Invariants, IsBlackStack, IsMarked, NilOrMade, NilOrMarked, put1, put2, put3, put_row, shaded, Tricolour, White}
 use Rattle.gh_tri.proofs.Tells.{differ, put-tells, put2-tells, put3-tells, put_row-tells, shaded-tells, shaded-marks, shaded-black}
 use Rattle.gh_tri.proofs.Protecting.{IsSafe, Guards, safe-kept}
 

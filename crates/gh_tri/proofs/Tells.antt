@@ -1,10 +1,6 @@
 -- What a function with one value replaced has at each place, and what shading does to a colour.
-use Rattle.std.proofs.Common.{◌≡◌, ◌≢◌, ℕ, Bool, true, false, ◌∙◌, ap, cond, eqb, inl, inr, ◌⊎◌, Option, Some, arith}
-use Rattle.std.specs.Prelude.{◌&&◌}
-use Rattle.std.proofs.lemmas.Bool.Decides.{eqb_tells}
-use Rattle.gh_tri.specs.declared.Colour.{Colour}
-use Rattle.gh_tri.specs.declared.Colour.TheVariants.{White, Grey, Black}
-use Rattle.gh_tri.specs.Tricolour.{put1, put2, put3, put_row, greyed, shaded}
+use Rattle.std.proofs.Common.{◌≡◌, ◌≢◌, ℕ, Bool, true, false, ◌∙◌, ap, cond, eqb, inl, inr, ◌⊎◌, Option, Some, arith, ◌&&◌}
+use Rattle.gh_tri.proofs.Vocabulary.{Black, Colour, eqb_tells, Grey, greyed, put1, put2, put3, put_row, shaded, White}
 
 pub differ : {b : Bool} → b ≡ true → b ≡ false → ⊥
 differ x y = cc

@@ -1,26 +1,12 @@
 -- The walk of `Reclaim`, step by step: of each page behind it, and of each head that it has looked at.
 use Rattle.std.proofs.Common.{◌≡◌, ◌≢◌, ℕ, zero, suc, ◌+◌, ◌<◌, ◌*◌, ◌==◌, ◌⊎◌, inl, inr, Bool, true, false, cond, ltb, Option, Some, None, refl, sym, ap, subst, ◌∙◌, arith, eqb-true}
-use Rattle.std.proofs.lemmas.Bool.{cases_lt}
 use Rattle.std.proofs.lemmas.Bool.Decides.{nat_tests}
-use Rattle.gh_base.specs.declared.cell.Cell.TheVariants.{Page}
-use Rattle.gh_base.specs.declared.cell.Ask.{Ask}
-use Rattle.gh_base.specs.declared.cell.Ask.TheVariants.{Load}
-use Rattle.gh_base.specs.declared.pack.PageWord.{PageWord}
-use Rattle.gh_base.specs.declared.pack.PageWord.TheVariants as word
-use Rattle.gh_base.specs.declared.pack.SpanHead.{SpanHead}
-use Rattle.gh_base.specs.Packing.{page_of}
-use Rattle.gh_base.specs.declared.layout.Layout.{Layout}
-use Rattle.gh_base.specs.Machines.{steps_of}
-use Rattle.gh_base.specs.Routines.{EndsWith, told}
+use Rattle.gh_unswept.proofs.Vocabulary.{Ask, cases_lt, EndsWith, Layout, Load, Lost, Page, page_of, pages_gone, PageWord, SpanHead, steps_of, SweepEnd, Sweeping, Swept, told}
 use Rattle.gh_central.specs.declared.reclaim.ReclaimStage.{ReclaimStage}
 use Rattle.gh_central.specs.declared.reclaim.ReclaimStage.TheVariants.{Bits, Body, Ended, Head, Look, Sweep, Wait}
 use Rattle.gh_central.specs.Reclaim.{after_bits, after_page, after_sweep, after_wait, asks, asks_at, at_stage, free_from, given, given_at, goes, goes_at, listing, look_from, opening, Reclaiming, sweep_at, unowned, unswept}
-use Rattle.gh_central.specs.SweptPass.{pages_gone}
-use Rattle.gh_sweep.specs.declared.sweep.SweepEnd.{SweepEnd}
-use Rattle.gh_sweep.specs.declared.sweep.SweepEnd.TheVariants.{Lost, Swept}
 use Rattle.gh_sweep.specs.declared.sweep.SweepStage.{SweepStage}
 use Rattle.gh_sweep.specs.Listing as sweep
-use Rattle.gh_sweep.specs.Listing.{Sweeping}
 use Rattle.gh_unswept.specs.EachSwept.{EndsSweep, HasSwept, HasWaited, IsBegun, IsHead, IsMet, IsTold, SweepsEach, TheReclaimingSweepsEach}
 
 -- a sweep stays at its page, and keeps the head that it began with
@@ -111,7 +97,7 @@ module _ (layout : Layout) (m : Reclaiming) (found : ℕ → ℕ) where
   At n p = (at_step n).stage ≡ p
 
   -- the head was told by the last step, or before
-  by_last : (n : ℕ) (stage : ReclaimStage) (i : ℕ) (h : SpanHead) → IsHead layout m found (suc n) stage i h → ((i ≡ n) × At n stage × (page_of (found n) ≡ word.Head h)) ⊎ IsHead layout m found n stage i h
+  by_last : (n : ℕ) (stage : ReclaimStage) (i : ℕ) (h : SpanHead) → IsHead layout m found (suc n) stage i h → ((i ≡ n) × At n stage × (page_of (found n) ≡ PageWord.Head h)) ⊎ IsHead layout m found n stage i h
   by_last n stage i h t = grind arith
 
   -- The step that is told looks at no page.
@@ -159,39 +145,39 @@ module _ (layout : Layout) (m : Reclaiming) (found : ℕ → ℕ) where
   -- It looks at a page.
   module _ (n page : ℕ) (at : At n (Look page)) (a : asks layout (at_step n) ≡ Load (Page page)) (k : Passed n page) where
     -- the head that is told now is the only one left
-    each_but_now : (h : SpanHead) → page_of (found n) ≡ word.Head h → EachBut (suc n) n page h
+    each_but_now : (h : SpanHead) → page_of (found n) ≡ PageWord.Head h → EachBut (suc n) n page h
     each_but_now h is i q g t nobody = elim (by_last n (Look q) i g t) [
       | inl last ↦ inr (last.0, let there = last.1 in cc, let there = last.2 in cc)
       | inr old ↦ inl (done_more n i q g (k.each i q g old nobody))
     ]
 
     -- it is no head, or somebody owns it
-    each_now : ((h : SpanHead) → page_of (found n) ≡ word.Head h → h.owner ≢ 0) → Each (suc n)
+    each_now : ((h : SpanHead) → page_of (found n) ≡ PageWord.Head h → h.owner ≢ 0) → Each (suc n)
     each_now none i q g t nobody = elim (by_last n (Look q) i g t) [
       | inl last ↦ absurd (none g last.2 nobody)
       | inr old ↦ done_more n i q g (k.each i q g old nobody)
     ]
 
-    stands_now : (h : SpanHead) → page_of (found n) ≡ word.Head h → IsHead layout m found (suc n) (Look page) n h
+    stands_now : (h : SpanHead) → page_of (found n) ≡ PageWord.Head h → IsHead layout m found (suc n) (Look page) n h
     stands_now h is = record { before = omega arith; stage_is = at; head_is = is }
 
-    unswept_known : (h : SpanHead) → page_of (found n) ≡ word.Head h → Knows (suc n) (unswept m page h)
+    unswept_known : (h : SpanHead) → page_of (found n) ≡ PageWord.Head h → Knows (suc n) (unswept m page h)
     unswept_known h is = go (h.number + 2 == m.generation) refl where
       go : (b : Bool) → (h.number + 2 == m.generation) ≡ b → Knows (suc n) (cond b (Sweep page h.pages (sweep.opening page h)) (Wait page))
       go true e = record { met = met_more n page k.met; first = n; head = h; stands = stands_now h is; pages_is = refl; page_is = refl; head_is = refl; each = each_but_now h is }
       go false e = record { met = met_more n page k.met; first = n; head = h; stands = stands_now h is; begun = inl (λ so. grind (arith, nat_tests)); each = each_but_now h is }
 
-    unowned_known : (h : SpanHead) → page_of (found n) ≡ word.Head h → Knows (suc n) (unowned m page h)
+    unowned_known : (h : SpanHead) → page_of (found n) ≡ PageWord.Head h → Knows (suc n) (unowned m page h)
     unowned_known h is = go (h.number == m.generation) refl where
       go : (b : Bool) → (h.number == m.generation) ≡ b → Knows (suc n) (cond b (Bits page h.pages 0) (unswept m page h))
       go true e = record { met = met_behind n page h.pages k.met a (ap pages_gone is); each = all_done (suc n) n page h (each_but_now h is) (λ nobody. inl (grind (arith, nat_tests))) }
       go false e = unswept_known h is
 
     page_known : (w : PageWord) → page_of (found n) ≡ w → Knows (suc n) (after_page layout m page w)
-    page_known word.Free is = from_known (suc n) (page + 1) (record { met = met_behind n page 1 k.met a (ap pages_gone is); each = each_now (λ h e. absurd (cc)) })
-    page_known (word.Body b) is = from_known (suc n) (page + 1) (record { met = met_behind n page 1 k.met a (ap pages_gone is); each = each_now (λ h e. absurd (cc)) })
-    page_known (word.Head h) is = go (h.owner == 0) refl where
-      owned : (h.owner == 0) ≡ false → (g : SpanHead) → page_of (found n) ≡ word.Head g → g.owner ≢ 0
+    page_known PageWord.Free is = from_known (suc n) (page + 1) (record { met = met_behind n page 1 k.met a (ap pages_gone is); each = each_now (λ h e. absurd (cc)) })
+    page_known (PageWord.Body b) is = from_known (suc n) (page + 1) (record { met = met_behind n page 1 k.met a (ap pages_gone is); each = each_now (λ h e. absurd (cc)) })
+    page_known (PageWord.Head h) is = go (h.owner == 0) refl where
+      owned : (h.owner == 0) ≡ false → (g : SpanHead) → page_of (found n) ≡ PageWord.Head g → g.owner ≢ 0
       owned e g f = let same : h ≡ g = cc in subst (λ (x : SpanHead). x.owner ≢ 0) same (λ so. grind (arith, nat_tests))
 
       go : (b : Bool) → (h.owner == 0) ≡ b → Knows (suc n) (cond b (unowned m page h) (look_from layout (page + h.pages)))
@@ -250,9 +236,9 @@ module _ (layout : Layout) (m : Reclaiming) (found : ℕ → ℕ) where
     waits_on = record { met = met_more n page k.met; first = k.first; head = k.head; stands = head_more n (Look page) k.first k.head k.stands; begun = begun_still; each = each_left }
 
     wait_known : (w : PageWord) → page_of (found n) ≡ w → Knows (suc n) (after_wait m page w)
-    wait_known word.Free is = waits_on
-    wait_known (word.Body b) is = waits_on
-    wait_known (word.Head h) is = go (h.number == m.generation) refl where
+    wait_known PageWord.Free is = waits_on
+    wait_known (PageWord.Body b) is = waits_on
+    wait_known (PageWord.Head h) is = go (h.number == m.generation) refl where
       waited : h.number ≡ m.generation → HasWaited layout m found (suc n) k.first page k.head
       waited so = (begun_still, (n, h, k.stands.before, record { before = omega arith; stage_is = at; head_is = is }, so))
 

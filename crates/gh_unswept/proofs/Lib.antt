@@ -1,2 +1,3 @@
 mod EachSwept
 mod FirstUnswept
+pub mod Vocabulary

@@ -1,22 +1,10 @@
 -- What `Reclaim` was told, and what it has swept or waited for where it ends.
 use Rattle.std.specs.Prelude.{◌≡◌, ◌≢◌, ℕ, suc, ◌+◌, ◌<◌, ◌≤◌, ◌⊎◌, Some}
-use Rattle.gh_base.specs.declared.cell.Cell.TheVariants.{Page}
-use Rattle.gh_base.specs.declared.cell.Ask.{Ask}
-use Rattle.gh_base.specs.declared.cell.Ask.TheVariants.{Load}
-use Rattle.gh_base.specs.declared.layout.Layout.{Layout}
-use Rattle.gh_base.specs.declared.pack.PageWord.TheVariants.{Head}
-use Rattle.gh_base.specs.declared.pack.SpanHead.{SpanHead}
-use Rattle.gh_base.specs.Packing.{page_of}
-use Rattle.gh_base.specs.Machines.{steps_of}
+use Rattle.gh_unswept.specs.Vocabulary.{Ask, gives, Head, Layout, Load, Lost, Page, page_of, pages_gone, SpanHead, steps_of, SweepEnd, Sweeping, Swept, SweptSpan}
 use Rattle.gh_base.specs.Routines as routine
 use Rattle.gh_central.specs.declared.reclaim.ReclaimStage.{ReclaimStage}
 use Rattle.gh_central.specs.declared.reclaim.ReclaimStage.TheVariants.{Look, Wait}
 use Rattle.gh_central.specs.Reclaim.{asks, listing, opening, Reclaiming, sweep_in}
-use Rattle.gh_central.specs.SweptPass.{pages_gone}
-use Rattle.gh_sweep.specs.declared.sweep.SweepEnd.{SweepEnd}
-use Rattle.gh_sweep.specs.declared.sweep.SweepEnd.TheVariants.{Lost, Swept}
-use Rattle.gh_sweep.specs.declared.sweep.SweptSpan.{SweptSpan}
-use Rattle.gh_sweep.specs.Listing.{gives, Sweeping}
 
 -- by its first n steps
 module _ (l : Layout) (m : Reclaiming) (found : ℕ → ℕ) (n : ℕ) where

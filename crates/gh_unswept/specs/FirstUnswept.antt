@@ -1,22 +1,10 @@
 -- What the pass for an unswept span was told, and what its answer says of that.
 use Rattle.std.specs.Prelude.{◌≡◌, ℕ, suc, ◌+◌, ◌<◌, ◌≤◌, ◌⊎◌, true, false, Some, None}
-use Rattle.gh_base.specs.declared.cell.Cell.TheVariants.{Page}
-use Rattle.gh_base.specs.declared.cell.Ask.{Ask}
-use Rattle.gh_base.specs.declared.cell.Ask.TheVariants.{Load, Store}
-use Rattle.gh_base.specs.declared.layout.Layout.{Layout}
-use Rattle.gh_base.specs.declared.pack.PageWord.TheVariants.{Head}
-use Rattle.gh_base.specs.declared.pack.SpanHead.{SpanHead}
-use Rattle.gh_base.specs.Packing.{head_word, page_of}
-use Rattle.gh_base.specs.Machines.{steps_of}
+use Rattle.gh_unswept.specs.Vocabulary.{Ask, gives, Head, head_word, Layout, Load, Lost, once_swept, owned_by, Page, page_of, pages_gone, SpanHead, steps_of, Store, SweepEnd, Sweeping, Swept, SweptSpan}
 use Rattle.gh_base.specs.Routines as routine
 use Rattle.gh_class.specs.declared.class.SizeClass.TheVariants.{Small}
 use Rattle.gh_class.specs.declared.class.SpanClass.{SpanClass}
-use Rattle.gh_central.specs.SweptPass.{owned_by, pages_gone}
 use Rattle.gh_central.specs.UnsweptPass.{asks, listing, opening, sweep_in, Unswept}
-use Rattle.gh_sweep.specs.declared.sweep.SweepEnd.{SweepEnd}
-use Rattle.gh_sweep.specs.declared.sweep.SweepEnd.TheVariants.{Lost, Swept}
-use Rattle.gh_sweep.specs.declared.sweep.SweptSpan.{SweptSpan}
-use Rattle.gh_sweep.specs.Listing.{gives, once_swept, Sweeping}
 
 -- the head of a span of the wanted span class that is not swept, and that nobody sweeps
 pub record IsWantedUnswept (m : Unswept) (h : SpanHead) : Type 0 where

@@ -1,2 +1,3 @@
 pub mod FirstUnswept
 pub mod EachSwept
+pub mod Vocabulary

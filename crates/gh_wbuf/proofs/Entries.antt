@@ -1,14 +1,10 @@
 -- The taking of an entry, by what its tries answer.
-use Rattle.std.proofs.Common.{◌≡◌, ℕ, zero, suc, ◌+◌, ◌-◌, ◌<◌, ◌≤◌, ◌⊎◌, Bool, true, false, cond, ltb, Option, Some, None, refl, sym, ap, subst, ◌∙◌, arith, inl, inr, ltb-true, ltb-false}
-use Rattle.std.specs.Prelude.{is_none}
-use Rattle.gh_base.specs.Cells.{buffers_of}
+use Rattle.std.proofs.Common.{◌≡◌, ℕ, zero, suc, ◌+◌, ◌-◌, ◌<◌, ◌≤◌, ◌⊎◌, Bool, true, false, cond, ltb, Option, Some, None, refl, sym, ap, subst, ◌∙◌, arith, inl, inr, ltb-true, ltb-false, is_none}
+use Rattle.gh_wbuf.proofs.Vocabulary.{after_try, at_stage, begin, buffers_of, EndsAt, Entry, entry_of, EntryTaking, GoesOn, has_next, Held, held_at, IsFolded, Layout, less, nat_tests, opening, TakeStage, told, Took, transitions, try_at, Trying, TryStage}
 use Rattle.gh_wbuf.specs.declared.take_entry.TakeStage.TheVariants.{Try, Take, Ended}
-use Rattle.gh_wbuf.specs.declared.try_buffer.TryStage.TheVariants as stage
 use Rattle.gh_wbuf.specs.Entries.{AreLost, Becomes, entry_try, HasNoEntry, held_behind, TakesEntry, TakesLast, taking, TriesForEntry, trying}
-use Rattle.gh_wbuf.specs.EntryTaking.{after_try, asks, at_stage, begin, entry_of, EntryTaking, given, given_at, gives, goes, goes_at, has_next, held_at, is_busy, less, opening, transitions, try_at}
-use Rattle.gh_wbuf.specs.Tries.{EndsAt, Took}
+use Rattle.gh_wbuf.specs.EntryTaking.{asks, given, given_at, gives, goes, goes_at, is_busy}
 use Rattle.gh_wbuf.specs.Trying as try
-use Rattle.gh_wbuf.proofs.Vocabulary.{Entry, GoesOn, Held, IsFolded, Layout, nat_tests, TakeStage, told, Trying, TryStage}
 use Rattle.gh_wbuf.proofs.Taking.{TryingFacts, fine_try, took}
 use Rattle.gh_wbuf.proofs.Tries.{tries}
 use Rattle.gh_wbuf.proofs.Trying.{busy_before, gives_nothing, same, still_busy}
@@ -193,10 +189,10 @@ module _ (l : Layout) (seat : ℕ) where
 
   -- a buffer that is held has no entry, and none is held at the swap
   abbrev HeldFits : Option Held → TryStage → Type 0
-  HeldFits held stage.Look = HasNoEntry held
-  HeldFits held (stage.GiveBack word) = HasNoEntry held
-  HeldFits held (stage.Claim word) = held ≡ None
-  HeldFits held (stage.Ended out) = Unit {0}
+  HeldFits held TryStage.Look = HasNoEntry held
+  HeldFits held (TryStage.GiveBack word) = HasNoEntry held
+  HeldFits held (TryStage.Claim word) = held ≡ None
+  HeldFits held (TryStage.Ended out) = Unit {0}
 
   abbrev TakingFactsAt : TakeStage → Type 0
   TakingFactsAt (Try t) = TryingFacts seat Entry t × HeldFits t.held t.stage × (try.is_busy t.stage ≡ true)

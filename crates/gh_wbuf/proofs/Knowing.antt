@@ -1,15 +1,11 @@
 -- Each step of the routines is a move, and leads to what the next stage knows.
-use Rattle.std.proofs.Common.{◌≡◌, ◌≢◌, ℕ, ◌+◌, ◌<◌, ◌≤◌, Bool, true, false, eqb, Option, Some, None, refl, sym, ap, subst, ◌∙◌, eqb-true, eq-eqb, arith}
-use Rattle.std.specs.Prelude.{is_none}
+use Rattle.std.proofs.Common.{◌≡◌, ◌≢◌, ℕ, ◌+◌, ◌<◌, ◌≤◌, Bool, true, false, eqb, Option, Some, None, refl, sym, ap, subst, ◌∙◌, eqb-true, eq-eqb, arith, is_none}
+use Rattle.gh_wbuf.proofs.Vocabulary.{AreBuffersOf, AreCounted, Buffer, buffer_of, buffer_word, Buffers, BuffersAreHeld, BuffersAreKept, cell_of, Claim, Ended, ENTRIES, Entry, Facts, GiveBack, GiveKnows, GiveStage, Held, HoldsBuffer, IsFreeAt, KeepsItsBuffer, Layout, Listing, Look, May, Move, Moves, OwnStep, Room, RoomKnows, RoomStage, RoomStageKnows, RoomTryKnows, SoundTryStage, StepsAreMoves, Swap, TakeKnows, TakeStage, TakeStageKnows, Trying, TryKnows, TryStage, Words}
 use Rattle.gh_base.specs.Holding.{moved}
-use Rattle.gh_wbuf.specs.declared.find_room.RoomStage.TheVariants as room
-use Rattle.gh_wbuf.specs.declared.give_buffer.GiveStage.TheVariants as give
-use Rattle.gh_wbuf.specs.declared.take_entry.TakeStage.TheVariants as take
 use Rattle.gh_wbuf.specs.BufferGiving as giving
 use Rattle.gh_wbuf.specs.EntryTaking as taking
 use Rattle.gh_wbuf.specs.RoomFinding as finding
 use Rattle.gh_wbuf.specs.Trying as try
-use Rattle.gh_wbuf.proofs.Vocabulary.{AreBuffersOf, AreCounted, Buffer, buffer_of, buffer_word, Buffers, BuffersAreHeld, BuffersAreKept, cell_of, Claim, Ended, ENTRIES, Entry, Facts, SoundTryStage, GiveBack, GiveKnows, GiveStage, Held, HoldsBuffer, IsFreeAt, KeepsItsBuffer, Layout, Listing, Look, May, Move, Moves, OwnStep, Room, RoomKnows, RoomStage, RoomStageKnows, RoomTryKnows, StepsAreMoves, Swap, TakeKnows, TakeStage, TakeStageKnows, Trying, TryKnows, TryStage, Words}
 use Rattle.gh_wbuf.proofs.Taking.{fine_try, took}
 use Rattle.gh_wbuf.proofs.Tries.{open_yes}
 use Rattle.gh_wbuf.proofs.Trying.{same_step}
@@ -63,38 +59,38 @@ module _ (law : BuffersAreHeld) where
     -- the search for room
 
     pub room_holds : (l : Layout) (r : finding.RoomFinding) (t : Trying) (index : ℕ) (out : Option (Option Held)) → (out ≡ Some None → t.held ≡ None) → ((h : Held) → out ≡ Some (Some h) → t.held ≡ Some h) →
-        t.held ≡ finding.held_at (finding.after_try l (finding.at_stage r (room.Try t)) index out).stage
+        t.held ≡ finding.held_at (finding.after_try l (finding.at_stage r (RoomStage.Try t)) index out).stage
     room_holds l r t index out lost won = grind arith
 
     room_moves : (l : Layout) (r : finding.RoomFinding) (p : RoomStage) → RoomStageKnows seat p → HoldsBuffer s seat (finding.held_at p) →
         Moves seat s words (finding.asks_at r p) (finding.held_at (finding.goes_at l r p (words (cell_of (finding.asks_at r p)))).stage)
-    room_moves l r (room.GiveBack h) k holds = steps.gives_back h holds
-    room_moves l r (room.Try t) k holds =
+    room_moves l r (RoomStage.GiveBack h) k holds = steps.gives_back h holds
+    room_moves l r (RoomStage.Try t) k holds =
         let f : ℕ = words (cell_of (try.asks t)) in
         subst (Moves seat s words (try.asks t))
         (room_holds l r (try.goes t f) t.index (try.gives t f) (lost_none t t.stage f k.none) (λ h e. given_held t t.stage f h k.busy e))
         (try_own t k.tries holds)
-    room_moves l r (room.Ended h) k holds = steps.loads _ _ holds
+    room_moves l r (RoomStage.Ended h) k holds = steps.loads _ _ holds
 
     -- the taking of an entry
 
     pub take_holds : (l : Layout) (r : taking.EntryTaking) (t : Trying) (index : ℕ) (out : Option (Option Held)) → ((h : Held) → out ≡ Some (Some h) → t.held ≡ Some h) →
-        t.held ≡ taking.held_at (taking.after_try l (taking.at_stage r (take.Try t)) index t.held out).stage
+        t.held ≡ taking.held_at (taking.after_try l (taking.at_stage r (TakeStage.Try t)) index t.held out).stage
     take_holds l r t index out won = grind arith
 
     take_moves : (l : Layout) (r : taking.EntryTaking) (p : TakeStage) → TakeStageKnows seat p → HoldsBuffer s seat (taking.held_at p) →
         Moves seat s words (taking.asks_at r p) (taking.held_at (taking.goes_at l r p (words (cell_of (taking.asks_at r p)))).stage)
-    take_moves l r (take.Try t) k holds =
+    take_moves l r (TakeStage.Try t) k holds =
         let f : ℕ = words (cell_of (try.asks t)) in
         subst (Moves seat s words (try.asks t))
         (take_holds l r (try.goes t f) t.index (try.gives t f) (λ h e. given_held t t.stage f h k.busy e))
         (try_own t k.tries holds)
-    take_moves l r (take.Take h) k holds = steps.takes_entry h holds k
-    take_moves l r (take.Ended held entry) k holds = steps.loads _ _ holds
+    take_moves l r (TakeStage.Take h) k holds = steps.takes_entry h holds k
+    take_moves l r (TakeStage.Ended held entry) k holds = steps.loads _ _ holds
 
     give_moves : (g : giving.BufferGiving) (p : GiveStage) → HoldsBuffer s seat (giving.held_at p) → Moves seat s words (giving.asks_at p) None
-    give_moves g (give.Give h) holds = steps.gives_back h holds
-    give_moves g give.Ended holds = steps.loads _ None holds
+    give_moves g (GiveStage.Give h) holds = steps.gives_back h holds
+    give_moves g GiveStage.Ended holds = steps.loads _ None holds
 
   -- what the next stage knows
 
@@ -106,24 +102,24 @@ module _ (law : BuffersAreHeld) where
   room_after l seat r index out e here some = grind arith
 
   pub room_next : (l : Layout) (seat : ℕ) (r : finding.RoomFinding) (p : RoomStage) (f : ℕ) → RoomKnows seat r → RoomStageKnows seat p → RoomKnows seat (finding.goes_at l r p f)
-  room_next l seat r (room.GiveBack h) f whole k = record { seat_is = whole.seat_is; stage = room_fresh seat r.seat 0 whole.seat_is }
-  room_next l seat r (room.Try t) f whole k =
-      room_after l seat (finding.at_stage r (room.Try (try.goes t f))) t.index (try.gives t f) whole.seat_is
+  room_next l seat r (RoomStage.GiveBack h) f whole k = record { seat_is = whole.seat_is; stage = room_fresh seat r.seat 0 whole.seat_is }
+  room_next l seat r (RoomStage.Try t) f whole k =
+      room_after l seat (finding.at_stage r (RoomStage.Try (try.goes t f))) t.index (try.gives t f) whole.seat_is
       (λ e. record { tries = try_next seat t f k.tries; wish_is = (same_step t f).wish ∙ k.wish_is; none = still_none t t.stage f k.none e; busy = ap is_none e })
       (λ h e. (took seat Room t f h (record { seat_is = k.tries.seat_is; wish_is = k.wish_is; stage_is = k.tries.opened }) k.busy e).1)
-  room_next l seat r (room.Ended h) f whole k = record { seat_is = whole.seat_is; stage = k }
+  room_next l seat r (RoomStage.Ended h) f whole k = record { seat_is = whole.seat_is; stage = k }
 
   take_after : (l : Layout) (seat : ℕ) (r : taking.EntryTaking) (index : ℕ) (held : Option Held) (out : Option (Option Held)) → r.seat ≡ seat → (out ≡ None → TakeStageKnows seat r.stage) → ((h : Held) → out ≡ Some (Some h) → 0 < h.count) →
       TakeKnows seat (taking.after_try l r index held out)
   take_after l seat r index held out e here some = grind arith
 
   take_next : (l : Layout) (seat : ℕ) (r : taking.EntryTaking) (p : TakeStage) (f : ℕ) → TakeKnows seat r → TakeStageKnows seat p → TakeKnows seat (taking.goes_at l r p f)
-  take_next l seat r (take.Try t) f whole k =
-      take_after l seat (taking.at_stage r (take.Try (try.goes t f))) t.index (try.goes t f).held (try.gives t f) whole.seat_is
+  take_next l seat r (TakeStage.Try t) f whole k =
+      take_after l seat (taking.at_stage r (TakeStage.Try (try.goes t f))) t.index (try.goes t f).held (try.gives t f) whole.seat_is
       (λ e. record { tries = try_next seat t f k.tries; wish_is = (same_step t f).wish ∙ k.wish_is; busy = ap is_none e })
       (λ h e. (took seat Entry t f h (record { seat_is = k.tries.seat_is; wish_is = k.wish_is; stage_is = k.tries.opened }) k.busy e).1)
-  take_next l seat r (take.Take h) f whole k = record { seat_is = whole.seat_is; stage = tt }
-  take_next l seat r (take.Ended held entry) f whole k = record { seat_is = whole.seat_is; stage = tt }
+  take_next l seat r (TakeStage.Take h) f whole k = record { seat_is = whole.seat_is; stage = tt }
+  take_next l seat r (TakeStage.Ended held entry) f whole k = record { seat_is = whole.seat_is; stage = tt }
 
   -- the two laws of a routine, whose stage speaks of nothing shared
   module _ {M Out : Type 0} (r : Listing M Out) (held_of : M → Option Held) (Knows : (seat : ℕ) → M → Type 0) where

@@ -1,15 +1,13 @@
 -- While marking is on the steps of a try, of the search for room and of giving back are moves that their seat may make. Of the moves it is known what the laws of gh_marks say.
 use Rattle.std.proofs.Common.{◌≡◌, ℕ, ◌+◌, ◌%◌, ◌≤◌, Bool, true, false, cond, eqb, Option, Some, None, refl, sym, ap, subst, ◌∙◌, arith, eqb-true, eq-eqb}
+use Rattle.gh_wbuf.proofs.Vocabulary.{AreBuffersOf, Buffer, buffer_of, buffer_word, buffers_as_held, BuffersAreHeld, BuffersAreKept, cell_of, Claim, Cycle, effect, Ended, ENTRIES, GiveBack, GiveBuffer, GiveFacts, GiveStage, Good, Hands, HasBuffer, Held, holder_in, holding, InHand, IsFreeAt, Keeps, landing, lands_by, lands_still, Load, Look, moved, nat_tests, put, RoomFacts, RoomStage, RoomStageKnows, Shared, SoundTryStage, Steps, Swap, TakeBuffer, Touch, TryFacts, Trying, TryKnows, TryStage}
 use Rattle.gh_base.specs.declared.cell.Ask.{Ask}
 use Rattle.gh_base.specs.declared.cell.Cell.{Cell}
 use Rattle.gh_marks.specs.Laws.{EachHandFollows, EachHandLasts, EachOwnMoveLeaves, WhatIsKeptGoesOn}
 use Rattle.gh_marks.specs.Routines.{KeepsItsFacts}
-use Rattle.gh_wbuf.specs.declared.find_room.RoomStage.TheVariants as room
-use Rattle.gh_wbuf.specs.declared.give_buffer.GiveStage.TheVariants as give
 use Rattle.gh_wbuf.specs.BufferGiving as giving
 use Rattle.gh_wbuf.specs.RoomFinding as finding
 use Rattle.gh_wbuf.specs.Trying as try
-use Rattle.gh_wbuf.proofs.Vocabulary.{AreBuffersOf, Buffer, buffer_of, buffer_word, buffers_as_held, BuffersAreHeld, BuffersAreKept, cell_of, Claim, Cycle, effect, Ended, ENTRIES, SoundTryStage, GiveBack, GiveBuffer, GiveFacts, GiveStage, Good, Hands, HasBuffer, Held, holder_in, holding, InHand, IsFreeAt, Keeps, landing, lands_by, lands_still, Load, Look, moved, nat_tests, put, RoomFacts, RoomStage, RoomStageKnows, Shared, Steps, Swap, TakeBuffer, Touch, TryFacts, Trying, TryKnows, TryStage}
 use Rattle.gh_wbuf.proofs.Knowing.{given_held, lost_none, room_holds}
 use Rattle.gh_wbuf.proofs.Tries.{open_yes}
 
@@ -80,17 +78,17 @@ module _ (k : Known) (z : Cycle) (a : ℕ) (s : Shared) (rest : InHand) (g : Goo
 
   finds-at : (r : finding.RoomFinding) (p : RoomStage) → RoomStageKnows a p → Hands a s (holding rest (finding.held_at p)) →
       Holding (finding.asks_at r p) (finding.held_at (finding.goes_at z.arena.layout r p (s.words (cell_of (finding.asks_at r p)))).stage)
-  finds-at r (room.GiveBack h) knows x = gives-back h x
-  finds-at r (room.Try t) knows x =
+  finds-at r (RoomStage.GiveBack h) knows x = gives-back h x
+  finds-at r (RoomStage.Try t) knows x =
       let f : ℕ = s.words (cell_of (try.asks t)) in
       subst (Holding (try.asks t))
       (room_holds k.held a (buffers_as_held s.words s.filled) s.words g.counts shown z.arena.layout r (try.goes t f) t.index (try.gives t f) (lost_none t t.stage f knows.none) (λ h e. given_held t t.stage f h knows.busy e))
       (tries t knows.tries x)
-  finds-at r (room.Ended h) knows x = loads Touch (Some h) x
+  finds-at r (RoomStage.Ended h) knows x = loads Touch (Some h) x
 
   gives-at : (p : GiveStage) → Hands a s (holding rest (giving.held_at p)) → Holding (giving.asks_at p) None
-  gives-at (give.Give h) x = gives-back h x
-  gives-at give.Ended x = loads Touch None x
+  gives-at (GiveStage.Give h) x = gives-back h x
+  gives-at GiveStage.Ended x = loads Touch None x
 
   -- The facts of the next stage: what it knows of itself is known of old.
   own-try : (t : Trying) → TryFacts z a s rest t → Steps z a s (try.asks t) (λ u. Keeps z a s u × TryFacts z a u rest (try.goes t (s.words (cell_of (try.asks t)))))

@@ -1,13 +1,13 @@
 -- While marking is on an entry is taken out by a move that the seat may make, and names an object that nobody else has then. And all of it together.
 use Rattle.std.proofs.Common.{◌≡◌, ℕ, ◌+◌, ◌-◌, ◌*◌, ◌%◌, ◌<◌, ◌≤◌, true, Option, Some, None, refl, sym, ap, subst, ◌∙◌, arith, max}
 use Rattle.std.proofs.Math.Nat.{mod-eq_of_lt}
+use Rattle.gh_wbuf.proofs.Vocabulary.{Buffered, buffers_as_held, BuffersPassByMoves, cell_of, Cycle, effect, ENTRIES, FactsBegin, Good, Hands, Held, holding, InHand, Keeps, landing, lands_by, Layout, MayTakeEntry, moved, RoomStage, RoomStageKnows, Shared, Steps, TakeComes, TakeEntry, TakeKnows, TakesByMoves, TakeStage, TakeStageKnows, Trying}
 use Rattle.gh_base.specs.declared.cell.Cell.TheVariants.{Entry}
 use Rattle.gh_marks.specs.Knows.{KnowsObjects}
-use Rattle.gh_wbuf.specs.declared.take_entry.TakeStage.TheVariants as take
 use Rattle.gh_wbuf.specs.EntryTaking as taking
 use Rattle.gh_wbuf.specs.RoomFinding as finding
 use Rattle.gh_wbuf.specs.Trying as try
-use Rattle.gh_wbuf.proofs.Vocabulary.{Buffered, buffers_as_held, BuffersPassByMoves, cell_of, Cycle, effect, ENTRIES, FactsBegin, Good, Hands, Held, holding, InHand, Keeps, landing, lands_by, Layout, MayTakeEntry, moved, RoomStage, RoomStageKnows, Shared, Steps, TakeComes, TakeEntry, TakeKnows, TakesByMoves, TakeStage, TakeStageKnows, Took, Trying}
+use Rattle.gh_wbuf.specs.Facts.{Took}
 use Rattle.gh_wbuf.proofs.Knowing.{given_held, room_next}
 use Rattle.gh_wbuf.proofs.Markers.{Known, keep-finds, keep-gives, keep-tries, shown, tries}
 
@@ -21,7 +21,7 @@ module _ (k : Known) (z : Cycle) (a : ℕ) (s : Shared) (rest : InHand) (g : Goo
 
   -- behind a try of the taking
   comes : (r : taking.EntryTaking) (t : Trying) (index : ℕ) (out : Option (Option Held)) (u : Shared) → ((h : Held) → out ≡ Some (Some h) → t.held ≡ Some h) → rest.scanning ≡ None →
-      TakeKnows a (taking.after_try l (taking.at_stage r (take.Try t)) index t.held out) → Hands a u (holding rest t.held) → Comes u (taking.after_try l (taking.at_stage r (take.Try t)) index t.held out)
+      TakeKnows a (taking.after_try l (taking.at_stage r (TakeStage.Try t)) index t.held out) → Hands a u (holding rest t.held) → Comes u (taking.after_try l (taking.at_stage r (TakeStage.Try t)) index t.held out)
   comes r t index out u won idle knows x = grind arith
 
   module _ (objects : KnowsObjects z s) where
@@ -30,7 +30,7 @@ module _ (k : Known) (z : Cycle) (a : ℕ) (s : Shared) (rest : InHand) (g : Goo
         let f : ℕ = s.words (cell_of (taking.asks_at r p)) in
         Steps z a s (taking.asks_at r p) (λ u. Keeps z a s u × Comes u (taking.goes_at l r p f))
 
-    entry-taken : (r : taking.EntryTaking) (h : Held) → rest.scanning ≡ None → 0 < h.count → Hands a s (holding rest (Some h)) → Goal r (take.Take h)
+    entry-taken : (r : taking.EntryTaking) (h : Held) → rest.scanning ≡ None → 0 < h.count → Hands a s (holding rest (Some h)) → Goal r (TakeStage.Take h)
     entry-taken r h idle some x = lands_by z a s s.words (λ u. Keeps z a s u × Took a u rest (Some (taking.less h)) reference) (TakeEntry h.index o) may refl (k.leave z a s (TakeEntry h.index o) g may tt, record { some = omega arith; hands = hands }) where
       f : ℕ
       f = s.words (Entry h.index (h.count - 1))
@@ -76,13 +76,13 @@ module _ (k : Known) (z : Cycle) (a : ℕ) (s : Shared) (rest : InHand) (g : Goo
 
     takes-at : (r : taking.EntryTaking) (p : TakeStage) → rest.scanning ≡ None → TakeStageKnows a p → Hands a s (holding rest (taking.held_at p)) →
         TakeKnows a (taking.goes_at l r p (s.words (cell_of (taking.asks_at r p)))) → taking.is_busy p ≡ true → Goal r p
-    takes-at r (take.Try t) idle knows x then busy =
+    takes-at r (TakeStage.Try t) idle knows x then busy =
         let f : ℕ = s.words (cell_of (try.asks t)) in
-        landing z a s (effect s.words (try.asks t)) (λ u. Keeps z a s u × Hands a u (holding rest (try.goes t f).held)) (λ u. Keeps z a s u × Comes u (taking.goes_at l r (take.Try t) f))
+        landing z a s (effect s.words (try.asks t)) (λ u. Keeps z a s u × Hands a u (holding rest (try.goes t f).held)) (λ u. Keeps z a s u × Comes u (taking.goes_at l r (TakeStage.Try t) f))
         (λ u w h. (h.0, comes r (try.goes t f) t.index (try.gives t f) u (λ own e. given_held t t.stage f own knows.busy e) idle then h.1))
         (tries k z a s rest g t knows.tries x)
-    takes-at r (take.Take h) idle knows x then busy = entry-taken r h idle knows x
-    takes-at r (take.Ended held entry) idle knows x then busy = absurd (cc)
+    takes-at r (TakeStage.Take h) idle knows x then busy = entry-taken r h idle knows x
+    takes-at r (TakeStage.Ended held entry) idle knows x then busy = absurd (cc)
 
 keep-takes : Known → TakesByMoves
 keep-takes k = record {

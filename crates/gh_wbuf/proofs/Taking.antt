@@ -1,11 +1,6 @@
 -- What a try knows at each stage, and what it takes by its swap.
 use Rattle.std.proofs.Common.{◌≡◌, ℕ, Bool, true, false, cond, eqb, Option, Some, None, refl, subst, arith}
-use Rattle.gh_base.specs.declared.held.Held.{Held}
-use Rattle.gh_wbuf.specs.declared.try_buffer.TryStage.{TryStage}
-use Rattle.gh_wbuf.specs.declared.try_buffer.TryStage.TheVariants.{Look, GiveBack, Claim, Ended}
-use Rattle.gh_wbuf.specs.declared.try_buffer.Wish.{Wish}
-use Rattle.gh_wbuf.specs.Tries.{Has, Took}
-use Rattle.gh_wbuf.specs.Trying.{asks, asks_at, claimed, claims, given, given_at, gives, goes, goes_at, is_busy, is_open, SoundTryStage, Trying}
+use Rattle.gh_wbuf.proofs.Vocabulary.{asks, asks_at, Claim, claimed, claims, Ended, GiveBack, given, given_at, gives, goes, goes_at, Has, Held, is_busy, is_open, Look, SoundTryStage, Took, Trying, TryStage, Wish}
 
 -- with an open buffer it goes on
 pub claims_nothing : (t : Trying) (held : Option Held) (word : ℕ) → given_at (claims t held word) ≡ None

@@ -1,21 +1,11 @@
 -- A try, by what it is told.
-use Rattle.std.proofs.Common.{◌≡◌, ◌≢◌, ℕ, suc, Bool, true, false, cond, eqb, Option, Some, None, refl, sym, ap, ◌∙◌, arith, inl, inr}
-use Rattle.std.specs.Prelude.{◌&&◌}
+use Rattle.std.proofs.Common.{◌≡◌, ◌≢◌, ℕ, suc, Bool, true, false, cond, eqb, Option, Some, None, refl, sym, ap, ◌∙◌, arith, inl, inr, ◌&&◌}
 use Rattle.std.proofs.lemmas.Bool.{eqb-true, eq-eqb}
-use Rattle.gh_base.specs.declared.held.Held.{Held}
-use Rattle.gh_base.specs.declared.layout.Layout.{Layout}
-use Rattle.gh_base.specs.Packing.{buffer_of}
-use Rattle.gh_base.specs.Routines.{told}
-use Rattle.gh_wbuf.specs.declared.try_buffer.TryStage.TheVariants.{GiveBack, Claim, Ended}
-use Rattle.gh_wbuf.specs.declared.try_buffer.Wish.{Wish}
-use Rattle.gh_wbuf.specs.Tries.{EndsAt, Has, IsOpen, swap_step, TriesBuffer}
-use Rattle.gh_wbuf.specs.Trying.{asks, at_stage, claimed, claims, given, given_at, goes, is_busy, is_open, opening, serves, taken, transitions, Trying}
+use Rattle.gh_wbuf.proofs.Vocabulary.{asks, buffer_of, Claim, claimed, claims, Ended, EndsAt, GiveBack, given, given_at, goes, Has, Held, is_busy, is_open, IsOpen, Layout, serves, swap_step, taken, told, TriesBuffer, Trying, Wish}
+use Rattle.gh_wbuf.specs.Trying.{at_stage, opening, transitions}
 use Rattle.gh_wbuf.proofs.Trying.{answers_once, ends_once}
 
 -- what the tests of a word say
-
-has : (wish : Wish) (count : ℕ) → serves wish count ≡ true → Has wish count
-has wish count e = grind arith
 
 serves_it : (wish : Wish) (count : ℕ) → Has wish count → serves wish count ≡ true
 serves_it wish count h = grind arith

@@ -1,12 +1,8 @@
 -- What holds of each try: it ends once, and is of one buffer, seat and wish.
 use Rattle.std.proofs.Common.{◌≡◌, ◌≢◌, ℕ, zero, suc, ◌<◌, ◌≤◌, Bool, true, false, eqb, ltb, Option, Some, None, refl, sym, ap, subst, ◌∙◌, arith}
 use Rattle.std.proofs.lemmas.Bool.{eqb-true, eq-eqb, ltb-true, ltb-false}
-use Rattle.gh_base.specs.declared.held.Held.{Held}
-use Rattle.gh_base.specs.declared.layout.Layout.{Layout}
-use Rattle.gh_base.specs.Routines.{GoesOn, told}
-use Rattle.gh_wbuf.specs.declared.try_buffer.TryStage.{TryStage}
-use Rattle.gh_wbuf.specs.Tries.{EndsAt}
-use Rattle.gh_wbuf.specs.Trying.{gives, goes, goes_at, is_busy, transitions, Trying}
+use Rattle.gh_wbuf.proofs.Vocabulary.{EndsAt, gives, goes, goes_at, GoesOn, Held, is_busy, Layout, told, Trying, TryStage}
+use Rattle.gh_wbuf.specs.Trying.{transitions}
 
 -- it was busy before, if it is
 pub still_busy : (t : Trying) (found : ℕ) → is_busy (goes t found).stage ≡ true → is_busy t.stage ≡ true

@@ -1,15 +1,8 @@
 -- Giving a buffer back: what is asked for at each stage, where that leads, and what it has given.
-use Rattle.std.specs.Prelude.{ℕ, Bool, Option, Some, None, is_none}
-use Rattle.gh_base.specs.declared.cell.Cell.TheVariants.{Touch}
-use Rattle.gh_base.specs.declared.cell.Ask.{Ask}
-use Rattle.gh_base.specs.declared.cell.Ask.TheVariants.{Load}
-use Rattle.gh_base.specs.declared.held.Held.{Held}
-use Rattle.gh_base.specs.declared.layout.Layout.{Layout}
-use Rattle.gh_base.specs.Machines.{Listing, steps_of}
+use Rattle.std.specs.Prelude.{ℕ, Option, Some, None}
+use Rattle.gh_wbuf.specs.Vocabulary.{Ask, GiveBuffer, GiveStage, Held, Layout, Listing, Load, steps_of, Touch}
 use Rattle.gh_base.specs.Routines as routine
 use Rattle.gh_wbuf.specs.Sound.{SoundBufferGiving}
-use Rattle.gh_wbuf.specs.declared.give_buffer.GiveBuffer.{GiveBuffer}
-use Rattle.gh_wbuf.specs.declared.give_buffer.GiveStage.{GiveStage}
 use Rattle.gh_wbuf.specs.declared.give_buffer.GiveStage.TheVariants.{Give, Ended}
 use Rattle.gh_wbuf.specs.Trying.{gives_back, writes}
 
@@ -32,9 +25,6 @@ asks_at Ended = Load Touch
 abbrev pub given_at : GiveStage → Option (Unit {0})
 given_at Ended = Some tt
 given_at _ = None
-
-abbrev pub is_busy : GiveStage → Bool
-is_busy stage = is_none (given_at stage)
 
 abbrev pub asks : BufferGiving → Ask
 asks g = asks_at g.stage

@@ -1,14 +1,6 @@
 -- What the taking of an entry does, whatever it is told.
 use Rattle.std.specs.Prelude.{◌≡◌, ℕ, zero, suc, ◌+◌, ◌-◌, ◌<◌, ◌≤◌, ◌⊎◌, ◌↔◌, Option, Some, None}
-use Rattle.gh_base.specs.declared.cell.Cell.TheVariants as cell
-use Rattle.gh_base.specs.declared.cell.Ask.{Ask}
-use Rattle.gh_base.specs.declared.cell.Ask.TheVariants.{Load, Store}
-use Rattle.gh_base.specs.declared.held.Held.{Held}
-use Rattle.gh_base.specs.declared.layout.Layout.{Layout}
-use Rattle.gh_base.specs.Cells.{buffers_of}
-use Rattle.gh_base.specs.Routines.{GoesOn, told}
-use Rattle.gh_wbuf.specs.declared.take_entry.TakeStage.TheVariants.{Take}
-use Rattle.gh_wbuf.specs.declared.try_buffer.Wish.TheVariants.{Entry}
+use Rattle.gh_wbuf.specs.Vocabulary.{Ask, buffers_of, Cell, Entry, GoesOn, Held, Layout, Load, Store, Take, told}
 use Rattle.gh_wbuf.specs.EntryTaking.{EntryTaking, asks, entry_of, held_at, opening, transitions, try_at}
 use Rattle.gh_wbuf.specs.Tries.{EndsAt, Took}
 use Rattle.gh_wbuf.specs.Trying as try
@@ -21,8 +13,8 @@ HasNoEntry (Some h) = h.count ≡ 0
 -- What becomes of a held buffer with this step, after which this is held: it is held still; or its last entry is taken; or it has none, and its word is stored as 0.
 pub data Becomes (ask : Ask) (kept : Option Held) (h : Held) : Type 0 where
   stays : kept ≡ Some h → Becomes ask kept h
-  gives : ask ≡ Load (cell.Entry h.index (h.count - 1)) → kept ≡ Some (record { index = h.index; count = h.count - 1 }) → Becomes ask kept h
-  leaves : h.count ≡ 0 → ask ≡ Store (cell.Buffer h.index) 0 → kept ≡ None → Becomes ask kept h
+  gives : ask ≡ Load (Cell.Entry h.index (h.count - 1)) → kept ≡ Some (record { index = h.index; count = h.count - 1 }) → Becomes ask kept h
+  leaves : h.count ≡ 0 → ask ≡ Store (Cell.Buffer h.index) 0 → kept ≡ None → Becomes ask kept h
 
 module _ (seat : ℕ) where
   -- the try of a buffer, with this held
@@ -69,7 +61,7 @@ module _ (l : Layout) (seat : ℕ) (held : Option Held) (found : ℕ → ℕ) wh
   pub record TakesLast (n : ℕ) (entry : ℕ) : Type 0 where
     pub own : Held
     pub some : 0 < own.count
-    pub loads : asks (after n) ≡ Load (cell.Entry own.index (own.count - 1))
+    pub loads : asks (after n) ≡ Load (Cell.Entry own.index (own.count - 1))
     pub entry_is : entry ≡ entry_of l (found n)
     pub holds : held_at (after (suc n)).stage ≡ Some (record { index = own.index; count = own.count - 1 })
     -- it was held from the beginning on, or the Swap before wrote

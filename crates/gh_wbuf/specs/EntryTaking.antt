@@ -1,18 +1,9 @@
 -- Taking an entry: what is asked for at each stage, where that leads, and what it has given.
 use Rattle.std.specs.Prelude.{ℕ, ◌+◌, ◌-◌, ◌*◌, ◌%◌, Bool, max, nat_lt, if◌then◌else◌, Option, Some, None, is_none}
-use Rattle.gh_base.specs.declared.cell.Cell.TheVariants as cell
-use Rattle.gh_base.specs.declared.cell.Ask.{Ask}
-use Rattle.gh_base.specs.declared.cell.Ask.TheVariants.{Load}
-use Rattle.gh_base.specs.declared.held.Held.{Held}
-use Rattle.gh_base.specs.declared.layout.Layout.{Layout}
-use Rattle.gh_base.specs.Cells.{buffers_of}
-use Rattle.gh_base.specs.Machines.{Listing, steps_of}
+use Rattle.gh_wbuf.specs.Vocabulary.{Ask, buffers_of, Cell, Entry, Held, Layout, Listing, Load, steps_of, Take, TakeEntry, TakeStage, Try}
 use Rattle.gh_base.specs.Routines as routine
 use Rattle.gh_wbuf.specs.Sound.{SoundEntryTaking}
-use Rattle.gh_wbuf.specs.declared.take_entry.TakeEntry.{TakeEntry}
-use Rattle.gh_wbuf.specs.declared.take_entry.TakeStage.{TakeStage}
-use Rattle.gh_wbuf.specs.declared.take_entry.TakeStage.TheVariants.{Try, Take, Ended}
-use Rattle.gh_wbuf.specs.declared.try_buffer.Wish.TheVariants.{Entry}
+use Rattle.gh_wbuf.specs.declared.take_entry.TakeStage.TheVariants.{Ended}
 use Rattle.gh_wbuf.specs.Trying as try
 
 abbrev pub EntryTaking : Type 0
@@ -57,8 +48,8 @@ behind l seat index held = if has_next l index then try_at seat (index + 1) held
 
 abbrev pub asks_at : EntryTaking → TakeStage → Ask
 asks_at t (Try tries) = try.asks tries
-asks_at t (Take h) = Load (cell.Entry h.index (h.count - 1))
-asks_at t (Ended held entry) = Load cell.Touch
+asks_at t (Take h) = Load (Cell.Entry h.index (h.count - 1))
+asks_at t (Ended held entry) = Load Cell.Touch
 
 module _ (l : Layout) where
   -- what it is after the try of this buffer has given this, with what is held then

@@ -1,8 +1,6 @@
 -- What is known at each stage of the routines while marking is on, and what each step of their own is then. They take and give buffers alone, so they leave all that their caller knows.
 use Rattle.std.specs.Prelude.{◌≡◌, ℕ, ◌+◌, ◌-◌, ◌≤◌, true, Option, Some, None}
-use Rattle.gh_base.specs.declared.held.Held.{Held}
-use Rattle.gh_base.specs.declared.layout.Layout.{Layout}
-use Rattle.gh_base.specs.declared.pack.TheConstants.{ENTRIES}
+use Rattle.gh_wbuf.specs.Vocabulary.{ENTRIES, Held, Layout, Wish}
 use Rattle.gh_base.specs.Steps.{cell_of}
 use Rattle.gh_marks.specs.Colours.{Cycle, Shared}
 use Rattle.gh_marks.specs.Good.{Good}
@@ -10,7 +8,6 @@ use Rattle.gh_marks.specs.Knows.{KnowsObjects}
 use Rattle.gh_marks.specs.Moves.{Keeps, Others, Steps}
 use Rattle.gh_marks.specs.Routines.{KeepsItsFacts}
 use Rattle.gh_marks.specs.Seats.{Hands, InHand}
-use Rattle.gh_wbuf.specs.declared.try_buffer.Wish.{Wish}
 use Rattle.gh_wbuf.specs.BufferGiving as giving
 use Rattle.gh_wbuf.specs.EntryTaking as taking
 use Rattle.gh_wbuf.specs.Knowing.{RoomKnows, TakeKnows, TryKnows}

@@ -1,17 +1,6 @@
 -- What each stage of the routines knows of the buffers: who holds which, and how many entries each has.
 use Rattle.std.specs.Prelude.{◌≡◌, ℕ, ◌+◌, ◌<◌, ◌≤◌, true, Option, None}
-use Rattle.gh_base.specs.declared.held.Held.{Held}
-use Rattle.gh_base.specs.declared.layout.Layout.{Layout}
-use Rattle.gh_base.specs.declared.pack.TheConstants.{ENTRIES}
-use Rattle.gh_base.specs.Holding.{KeepsItsBuffer}
-use Rattle.gh_wbuf.specs.declared.find_room.RoomStage.{RoomStage}
-use Rattle.gh_wbuf.specs.declared.find_room.RoomStage.TheVariants as room
-use Rattle.gh_wbuf.specs.declared.take_entry.TakeStage.{TakeStage}
-use Rattle.gh_wbuf.specs.declared.take_entry.TakeStage.TheVariants as take
-use Rattle.gh_wbuf.specs.declared.try_buffer.TryStage.{TryStage}
-use Rattle.gh_wbuf.specs.declared.try_buffer.TryStage.TheVariants.{Claim}
-use Rattle.gh_wbuf.specs.declared.try_buffer.Wish.{Wish}
-use Rattle.gh_wbuf.specs.declared.try_buffer.Wish.TheVariants.{Room, Entry}
+use Rattle.gh_wbuf.specs.Vocabulary.{Claim, ENTRIES, Entry, Held, KeepsItsBuffer, Layout, Room, RoomStage, TakeStage, TryStage, Wish}
 use Rattle.gh_wbuf.specs.BufferGiving as giving
 use Rattle.gh_wbuf.specs.EntryTaking as taking
 use Rattle.gh_wbuf.specs.RoomFinding as finding
@@ -37,10 +26,10 @@ pub record RoomTryKnows (seat : ℕ) (t : try.Trying) : Type 0 where
   pub busy : try.is_busy t.stage ≡ true
 
 abbrev pub RoomStageKnows : (seat : ℕ) → RoomStage → Type 0
-RoomStageKnows seat (room.GiveBack h) = Unit {0}
-RoomStageKnows seat (room.Try t) = RoomTryKnows seat t
+RoomStageKnows seat (RoomStage.GiveBack h) = Unit {0}
+RoomStageKnows seat (RoomStage.Try t) = RoomTryKnows seat t
 -- what it has found has room for two
-RoomStageKnows seat (room.Ended h) = h.count + 2 ≤ ENTRIES
+RoomStageKnows seat (RoomStage.Ended h) = h.count + 2 ≤ ENTRIES
 
 pub record RoomKnows (seat : ℕ) (r : finding.RoomFinding) : Type 0 where
   pub seat_is : r.seat ≡ seat
@@ -53,9 +42,9 @@ pub record TakeTryKnows (seat : ℕ) (t : try.Trying) : Type 0 where
 
 -- the buffer whose entry it takes has one
 abbrev pub TakeStageKnows : (seat : ℕ) → TakeStage → Type 0
-TakeStageKnows seat (take.Try t) = TakeTryKnows seat t
-TakeStageKnows seat (take.Take h) = 0 < h.count
-TakeStageKnows seat (take.Ended held entry) = Unit {0}
+TakeStageKnows seat (TakeStage.Try t) = TakeTryKnows seat t
+TakeStageKnows seat (TakeStage.Take h) = 0 < h.count
+TakeStageKnows seat (TakeStage.Ended held entry) = Unit {0}
 
 pub record TakeKnows (seat : ℕ) (t : taking.EntryTaking) : Type 0 where
   pub seat_is : t.seat ≡ seat

@@ -7,3 +7,4 @@ pub mod RoomFinding
 pub mod Sound
 pub mod Tries
 pub mod Trying
+pub mod Vocabulary

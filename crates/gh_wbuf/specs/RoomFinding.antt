@@ -1,18 +1,9 @@
 -- Looking for a buffer with room: what is asked for at each stage, where that leads, and what it has given.
 use Rattle.std.specs.Prelude.{ℕ, ◌+◌, Bool, nat_lt, if◌then◌else◌, Option, Some, None, is_none}
-use Rattle.gh_base.specs.declared.cell.Cell.TheVariants.{Touch}
-use Rattle.gh_base.specs.declared.cell.Ask.{Ask}
-use Rattle.gh_base.specs.declared.cell.Ask.TheVariants.{Load}
-use Rattle.gh_base.specs.declared.held.Held.{Held}
-use Rattle.gh_base.specs.declared.layout.Layout.{Layout}
-use Rattle.gh_base.specs.Cells.{buffers_of}
-use Rattle.gh_base.specs.Machines.{Listing, steps_of}
+use Rattle.gh_wbuf.specs.Vocabulary.{Ask, buffers_of, FindRoom, Held, Layout, Listing, Load, Room, RoomStage, steps_of, Touch}
 use Rattle.gh_base.specs.Routines as routine
 use Rattle.gh_wbuf.specs.Sound.{SoundRoomFinding}
-use Rattle.gh_wbuf.specs.declared.find_room.FindRoom.{FindRoom}
-use Rattle.gh_wbuf.specs.declared.find_room.RoomStage.{RoomStage}
 use Rattle.gh_wbuf.specs.declared.find_room.RoomStage.TheVariants.{GiveBack, Try, Ended}
-use Rattle.gh_wbuf.specs.declared.try_buffer.Wish.TheVariants.{Room}
 use Rattle.gh_wbuf.specs.Trying as try
 
 abbrev pub RoomFinding : Type 0

@@ -1,15 +1,7 @@
 -- What a try takes, and where it takes none, whatever it is told.
 use Rattle.std.specs.Prelude.{◌≡◌, ◌≢◌, ℕ, suc, ◌+◌, ◌<◌, ◌≤◌, ◌⊎◌, ◌↔◌, Option, Some, None}
-use Rattle.gh_base.specs.declared.cell.Cell.TheVariants.{Buffer}
-use Rattle.gh_base.specs.declared.cell.Ask.{Ask}
-use Rattle.gh_base.specs.declared.cell.Ask.TheVariants.{Load, Store, Swap}
-use Rattle.gh_base.specs.declared.held.Held.{Held}
-use Rattle.gh_base.specs.declared.layout.Layout.{Layout}
-use Rattle.gh_base.specs.declared.pack.TheConstants.{ENTRIES}
-use Rattle.gh_base.specs.Packing.{buffer_of, buffer_word}
-use Rattle.gh_base.specs.Routines.{EndsWith, GoesOn, Listing, told}
-use Rattle.gh_wbuf.specs.declared.try_buffer.Wish.{Wish}
-use Rattle.gh_wbuf.specs.declared.try_buffer.Wish.TheVariants.{Room, Entry}
+use Rattle.gh_wbuf.specs.Vocabulary.{Ask, Buffer, buffer_of, buffer_word, EndsWith, ENTRIES, Entry, GoesOn, Held, Layout, Load, Room, Store, Swap, told, Wish}
+use Rattle.gh_base.specs.Routines.{Listing}
 use Rattle.gh_wbuf.specs.Trying.{Trying, asks, opening, transitions}
 
 -- There is a step n, and with it the routine ends, and gives this: what it has given stands for ever.

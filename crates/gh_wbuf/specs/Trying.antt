@@ -1,23 +1,12 @@
 -- A try to take one buffer: what is asked for at each stage, where that leads, and what it has given.
 use Rattle.std.specs.Prelude.{◌≡◌, ℕ, ◌+◌, ◌<◌, Bool, true, false, nat_lt, nat_le, ◌==◌, ◌&&◌, if◌then◌else◌, Option, Some, None, is_none}
-use Rattle.gh_base.specs.declared.cell.Cell.TheVariants.{Touch, Buffer}
-use Rattle.gh_base.specs.declared.cell.Ask.{Ask}
-use Rattle.gh_base.specs.declared.cell.Ask.TheVariants.{Load, Store, Swap}
-use Rattle.gh_base.specs.declared.held.Held.{Held}
-use Rattle.gh_base.specs.declared.layout.Layout.{Layout}
-use Rattle.gh_base.specs.Cells.{buffers_of, seats_of}
+use Rattle.gh_wbuf.specs.Vocabulary.{Ask, Buffer, buffer_of, buffer_word, buffers_of, Claim, Entry, FitsBuffers, Held, IsHeld, Layout, Listing, Load, Look, Room, seats_of, steps_of, Store, Swap, Touch, TryStage, Wish}
 use Rattle.gh_base.specs.Footprints.{Footprint}
 use Rattle.gh_base.specs.Footprints as row
-use Rattle.gh_base.specs.Holding.{FitsBuffers, IsHeld}
-use Rattle.gh_base.specs.Machines.{Listing, steps_of}
-use Rattle.gh_base.specs.Packing.{buffer_of, buffer_word}
 use Rattle.gh_base.specs.Routines as routine
 use Rattle.gh_wbuf.specs.declared.try_buffer.TheConstants.{MOST_WITH_ROOM}
 use Rattle.gh_wbuf.specs.declared.try_buffer.TryBuffer.{TryBuffer}
-use Rattle.gh_wbuf.specs.declared.try_buffer.TryStage.{TryStage}
-use Rattle.gh_wbuf.specs.declared.try_buffer.TryStage.TheVariants.{Look, GiveBack, Claim, Ended}
-use Rattle.gh_wbuf.specs.declared.try_buffer.Wish.{Wish}
-use Rattle.gh_wbuf.specs.declared.try_buffer.Wish.TheVariants.{Room, Entry}
+use Rattle.gh_wbuf.specs.declared.try_buffer.TryStage.TheVariants.{GiveBack, Ended}
 
 -- a try: whose it is, what the buffer is to have, which buffer it is on, what is held, and its stage
 abbrev pub Trying : Type 0

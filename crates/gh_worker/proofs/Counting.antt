@@ -1,24 +1,6 @@
 -- A worker's counts, step by step.
-use Rattle.std.proofs.Common.{◌≡◌, ℕ, zero, suc, ◌+◌, ◌-◌, ◌^◌, Bool, cond, eqb, Option, arith}
-use Rattle.std.specs.Prelude.{min}
-use Rattle.gh_base.specs.declared.held.Held.{Held}
-use Rattle.gh_base.specs.declared.layout.Layout.{Layout}
-use Rattle.gh_base.specs.declared.pack.PageWord.{PageWord}
-use Rattle.gh_base.specs.Packing.{page_of}
-use Rattle.gh_phase.specs.declared.resume.Resumed.{Resumed}
-use Rattle.gh_phase.specs.Listing as resume
-use Rattle.gh_scan.specs.Listing as scan
-use Rattle.gh_shade.specs.declared.shade.Shaded.{Shaded}
-use Rattle.gh_shade.specs.Listing as shade
-use Rattle.gh_sweep.specs.declared.sweep.SweepEnd.{SweepEnd}
-use Rattle.gh_sweep.specs.Listing as sweep
-use Rattle.gh_wbuf.specs.BufferGiving as give
-use Rattle.gh_wbuf.specs.EntryTaking as take
-use Rattle.gh_wbuf.specs.RoomFinding as room
-use Rattle.gh_worker.specs.declared.worker.WorkerStage.{WorkerStage}
-use Rattle.gh_worker.specs.declared.worker.WorkerStage.TheVariants.{LoadPage, Sweeping, EarningAtStop, GiveBack, Resuming, Taking, Scanning, Earning, LoadGlobal, Shading, FindRoom}
-use Rattle.gh_worker.specs.Listing.{Working, after_give, after_page, after_resume, after_room, after_scan, after_shade, after_sweep, after_take, at_stage, counted, done_with, goes_at}
-use Rattle.gh_worker.specs.Works.{CountsWords, after, scanned, shading_word, words_done, scan_words}
+use Rattle.std.proofs.Common.{◌≡◌, ℕ, zero, suc, ◌+◌, ◌-◌, ◌^◌, arith, min}
+use Rattle.gh_worker.proofs.Vocabulary.{after, counted, CountsWords, Earning, EarningAtStop, goes_at, Layout, scanned, words_done, WorkerStage, Working}
 
 -- it hands over what it has scanned
 abbrev pub IsEarning : WorkerStage → Type 0
@@ -31,46 +13,8 @@ module _ (l : Layout) (w : Working) (P : (d marks scan_work earned : ℕ) → Ty
   abbrev Counts : (d : ℕ) → Working → Type 0
   Counts d to = P d to.marks to.scan_work to.earned
 
-  page_so : (word : PageWord) → Counts 0 (after_page l w word)
-  page_so word = grind arith
-
-  sweep_so : (sw : sweep.Sweeping) (out : Option SweepEnd) → Counts 0 (after_sweep l w sw out)
-  sweep_so sw out = grind arith
-
-  give_so : (g : give.BufferGiving) (stops : ℕ) (out : Option (Unit {0})) → Counts 0 (after_give w g stops out)
-  give_so g stops out = grind arith
-
-  resume_so : (r : resume.Resuming) (out : Option Resumed) → Counts 0 (after_resume w r out)
-  resume_so r out = grind arith
-
-  take_so : (t : take.EntryTaking) (out : Option (Option ℕ)) → Counts 0 (after_take w t out)
-  take_so t out = grind arith
-
-  scan_so : (sc : scan.Scanning) (out : Option ℕ) → Counts (scan_words out) (after_scan w sc out)
-  scan_so sc out = grind arith
-
-  global_so : (sh : shade.Shading) (b : Bool) → Counts (cond b 1 0) (cond b (done_with w w.held 1) (at_stage w (Shading sh)))
-  global_so sh b = grind arith
-
-  shade_so : (sh : shade.Shading) (out : Option Shaded) → Counts (shading_word out) (after_shade w sh out)
-  shade_so sh out = grind arith
-
-  room_so : (sh : shade.Shading) (r : room.RoomFinding) (out : Option Held) → Counts 0 (after_room w sh r out)
-  room_so sh r out = grind arith
-
   pub step_so : (stage : WorkerStage) (found : ℕ) → (IsEarning stage → P 0 w.marks 0 (counted w.earned w.scan_work)) → Counts (words_done l stage found) (goes_at l w stage found)
-  step_so LoadPage found handed = page_so (page_of found)
-  step_so (Sweeping sw) found handed = sweep_so (sweep.goes sw found) (sweep.gives sw found)
-  step_so (EarningAtStop e stops) found handed = handed tt
-  step_so (GiveBack g stops) found handed = give_so (give.goes g found) stops (give.gives g found)
-  step_so (Resuming r) found handed = resume_so (resume.goes r found) (resume.gives r found)
-  step_so (Taking t) found handed = take_so (take.goes l t found) (take.gives l t found)
-  step_so (Scanning sc) found handed = scan_so (scan.goes l sc found) (scan.gives l sc found)
-  step_so (Earning e) found handed = handed tt
-  step_so (LoadGlobal i) found handed = global_so _ (eqb found 0)
-  step_so (Shading sh) found handed = shade_so (shade.goes sh found) (shade.gives sh found)
-  step_so (FindRoom sh r) found handed = room_so sh (room.goes l r found) (room.gives l r found)
-  step_so _ found handed = same
+  step_so _ found handed = grind arith
 
 -- the count of so many words
 abbrev count : ℕ → ℕ

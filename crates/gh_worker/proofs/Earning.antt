@@ -1,13 +1,11 @@
 -- Each word that a worker has scanned is handed over once, or still to be: step by step.
 use Rattle.std.proofs.Common.{◌≡◌, ℕ, ◌+◌, ◌^◌, ◌<◌, true, refl, arith}
+use Rattle.gh_worker.proofs.Vocabulary.{Ask, asks_at, EarnStage, goes_at, is_busy, Layout, SoundAt, SweepStage, words_done, WorkerStage, Working}
 use Rattle.gh_credit.specs.Earning as earn
 use Rattle.gh_credit.specs.Earning.{handed_by, LeavesOrAdds}
-use Rattle.gh_sweep.specs.declared.sweep.SweepStage.{SweepStage}
 use Rattle.gh_sweep.specs.Listing as sweep
 use Rattle.gh_worker.specs.Earning.{WorkersEarn}
-use Rattle.gh_worker.specs.Works.{words_done}
 use Rattle.gh_worker.proofs.Counting.{IsEarning, step_so}
-use Rattle.gh_worker.proofs.Vocabulary.{Ask, asks_at, EarnStage, goes_at, is_busy, Layout, SoundAt, WorkerStage, Working}
 use Rattle.gh_worker.proofs.Writing.{WritesPlainly}
 
 -- What its steps add to the bank: none but the steps that hand over.

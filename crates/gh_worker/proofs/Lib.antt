@@ -9,4 +9,5 @@ pub mod Places
 pub mod Shaking
 pub mod Sound
 pub mod Sweeping
+pub mod Within
 pub mod Writing

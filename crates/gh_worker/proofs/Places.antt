@@ -1,13 +1,8 @@
 -- Where a worker is between two stops, by what it does.
-use Rattle.std.proofs.Common.{◌≡◌, ℕ, Option, Some, ◌⊎◌, inl, inr, refl, sym, ap, subst, arith}
-use Rattle.gh_base.specs.declared.cell.Cell.TheVariants as cell
-use Rattle.gh_base.specs.declared.pack.Phase.TheVariants as kind
-use Rattle.gh_phase.specs.Handshake.{Gone, Resumes}
+use Rattle.std.proofs.Common.{◌≡◌, ℕ, Some, ◌⊎◌, inl, inr, refl, sym, ap, subst, arith}
+use Rattle.gh_worker.proofs.Vocabulary.{asks_at, at_stage, Cell, goes_at, Gone, IsAtWork, IsLeaving, IsMarking, Layout, Load, LoadPage, LoadPhase, Looks, Phase, phase_of, Polls, RestsAtStop, Resumes, ResumeStage, Resuming, run_phase, SoundAt, stands_at, sweep_at, WorkersKeepPlaces, WorkerStage, Working}
 use Rattle.gh_sweep.specs.Listing as sweep
-use Rattle.gh_worker.specs.Places.{IsAtWork, Looks, Polls, RestsAtStop, WorkersKeepPlaces}
-use Rattle.gh_worker.proofs.Phases as does
-use Rattle.gh_worker.proofs.Phases.{came_at, doing, doing_by, marks_at, polls_then, view_at}
-use Rattle.gh_worker.proofs.Vocabulary.{after_page, after_sweep, asks_at, at_stage, by_phase, by_stop, goes_at, IsLeaving, IsMarking, Layout, Load, LoadPage, LoadPhase, page_of, PageWord, Phase, phase_of, ResumeStage, Resuming, run_phase, SoundAt, stands_at, sweep_at, SweepEnd, Sweeping, WorkerStage, Working}
+use Rattle.gh_worker.proofs.Phases.{marks_at}
 
 works_at : (w : Working) (p : WorkerStage) → IsMarking p ⊎ (Looks p ⊎ (p ≡ LoadPhase)) → IsAtWork (at_stage w p)
 works_at w p is = grind arith
@@ -22,53 +17,24 @@ rests_at w _ stops at s is = absurd cc
 gone_at : (p : WorkerStage) → stands_at p ≡ Gone → IsLeaving p
 gone_at p is = grind arith
 
-is_looking : (p : WorkerStage) → Looks p → doing p ≡ does.Looks
-is_looking p x = grind arith
-
-looks_then : (p : WorkerStage) → doing p ≡ does.Looks → Looks p
-looks_then p e = grind arith
-
 sweeps_look : (p : WorkerStage) (sw : sweep.Sweeping) → sweep_at p ≡ Some sw → Looks p
 sweeps_look p sw is = grind arith
 
-off_found : (phase : Phase) → doing_by phase ≡ does.Looks → phase ≡ kind.Off
-off_found phase e = grind arith
-
 module _ (l : Layout) (found : ℕ) (w : Working) where
+  view_at : (p : WorkerStage) → Looks (goes_at l w p found).stage → (goes_at l w p found).view ≡ w.view
+  view_at p x = grind arith
+
   -- it looked before, or loaded the phase and finds that marking is off
-  looked_at : (p : WorkerStage) → Looks (goes_at l w p found).stage → Looks p ⊎ ((p ≡ LoadPhase) × ((phase_of found).phase ≡ kind.Off))
-  looked_at p x = elim (came_at l found w does.Looks p (λ e. absurd cc) (is_looking _ x)) [
-    | inl was ↦ inl (looks_then p was)
-    | inr polled ↦ inr (polls_then p polled.0, off_found (phase_of found).phase polled.1)
-  ]
-
-  page_not : (word : PageWord) → (after_page l w word).stage ≡ LoadPage → ⊥
-  page_not word e = grind arith
-
-  sweep_not : (sw : sweep.Sweeping) (out : Option SweepEnd) → (after_sweep l w sw out).stage ≡ LoadPage → ⊥
-  sweep_not sw out e = grind arith
-
-  looked_not : (p : WorkerStage) → Looks p → (goes_at l w p found).stage ≡ LoadPage → ⊥
-  looked_not LoadPage x e = page_not (page_of found) e
-  looked_not (Sweeping sw) x e = sweep_not (sweep.goes sw found) (sweep.gives sw found) e
-  looked_not _ x e = absurd x
+  looked_at : (p : WorkerStage) → Looks (goes_at l w p found).stage → Looks p ⊎ ((p ≡ LoadPhase) × ((phase_of found).phase ≡ Phase.Off))
+  looked_at p x = grind arith
 
   -- it comes to a look at a page by a load of the phase alone
-  pub looks_at : (p : WorkerStage) → (goes_at l w p found).stage ≡ LoadPage → (asks_at l w p ≡ Load cell.Phase) × ((phase_of found).phase ≡ kind.Off)
-  looks_at p e = elim (looked_at p (subst Looks (sym e) tt)) [
-    | inl before ↦ absurd (looked_not p before e)
-    | inr off ↦ (ap (asks_at l w) off.0, off.1)
-  ]
+  pub looks_at : (p : WorkerStage) → (goes_at l w p found).stage ≡ LoadPage → (asks_at l w p ≡ Load Cell.Phase) × ((phase_of found).phase ≡ Phase.Off)
+  looks_at p e = (grind arith, grind arith)
 
   -- a step that begins a sweep is no load of the phase
-  phase_none : (stops : ℕ) (phase : Phase) (sw : sweep.Sweeping) → sweep_at (by_phase w stops phase) ≡ Some sw → ⊥
-  phase_none stops phase sw is = grind (arith, by_stop)
-
   pub begins_at : (sw : sweep.Sweeping) (p : WorkerStage) → sweep_at (goes_at l w p found).stage ≡ Some sw → Looks p
-  begins_at sw p is = elim (looked_at p (sweeps_look (goes_at l w p found).stage sw is)) [
-    | inl before ↦ before
-    | inr off ↦ absurd (phase_none (phase_of found).stops (phase_of found).phase sw (subst (λ (q : WorkerStage). sweep_at (goes_at l w q found).stage ≡ Some sw) off.0 is))
-  ]
+  begins_at sw p is = grind arith
 
 pub keep_places : WorkersKeepPlaces
 keep_places = record {
@@ -77,7 +43,7 @@ keep_places = record {
   sweeps = λ w sw is. sweeps_look w.stage sw is;
   finds_on = λ l w found busy m. let f = marks_at l found w w.stage busy m in record { view_stays = f.view_stays; finds = elim f.finds [ inl before ↦ inl before | inr on ↦ inr (polls_at w on.0, on.1) ] };
   finds_off = λ l w found x. record {
-    view_stays = view_at l found w does.Looks w.stage (λ e. absurd cc) (λ e. absurd cc) (λ e. absurd cc) (is_looking _ x);
+    view_stays = view_at l found w w.stage x;
     finds = elim (looked_at l found w w.stage x) [ inl before ↦ inl before | inr off ↦ inr (polls_at w off.0, ap run_phase off.1) ];
   };
   begins = λ l w found sw is. begins_at l found w sw w.stage is;

@@ -1,18 +1,13 @@
 -- A worker stays sound, its steps lie in the heap, and they write the rows of its footprint: by its stages. Of its routines it is known that they are routines.
-use Rattle.std.proofs.Common.{◌≡◌, ℕ, ◌^◌, ◌<◌, ◌==◌, Bool, true, cond, ltb, Option, Some, None, refl, subst, arith}
+use Rattle.std.proofs.Common.{◌≡◌, ℕ, ◌^◌, ◌<◌, true, Option, Some, None, refl, subst, arith}
 use Rattle.std.proofs.lemmas.Bool.Decides.{nat_tests}
-use Rattle.gh_base.specs.Cells.{InRange}
-use Rattle.gh_base.specs.Footprints.{Footprint, FootprintsHold, Writes}
+use Rattle.gh_worker.proofs.Vocabulary.{after_give, after_page, after_resume, after_room, after_scan, after_shade, after_sweep, after_take, Ask, asks, asks_at, at_stage, by_phase, by_stop, by_work, cell_of, counted, Done, done_with, Earning, EarningAtStop, EarnStage, FindRoom, FitsPage, Footprint, FootprintsHold, GiveBack, gives_back, goes_at, handed_over, Held, InRange, IsOutsideMarking, Layout, Leave, LoadPage, LoadPhase, marks, page_of, PageWord, Phase, phase_of, Resumed, ResumeStage, Resuming, Scanning, Shaded, Shading, SoundAt, SoundStage, SoundWorking, sweep_at, SweepEnd, Sweeping, Taking, WaitForRoom, WorkerStage, Working, Writes, writes}
 use Rattle.gh_base.specs.Holding.{IsHeld}
 use Rattle.gh_base.specs.Machines.{IsRoutine}
-use Rattle.gh_base.specs.Packing.{FitsPage}
-use Rattle.gh_credit.specs.declared.earn.EarnStage.TheVariants as earn_at
 use Rattle.gh_credit.specs.Earning as earn
-use Rattle.gh_phase.specs.declared.resume.ResumeStage.TheVariants as resume_at
 use Rattle.gh_phase.specs.Listing as resume
 use Rattle.gh_scan.specs.Listing as scan
 use Rattle.gh_scan.specs.Sound.{SoundScanning}
-use Rattle.gh_shade.specs.declared.shade.ShadeStage.TheVariants.{WaitForRoom}
 use Rattle.gh_shade.specs.Listing as shade
 use Rattle.gh_shade.specs.Sound.{IsReference, SoundShading}
 use Rattle.gh_sweep.specs.Listing as sweep
@@ -22,9 +17,7 @@ use Rattle.gh_wbuf.specs.RoomFinding as room
 use Rattle.gh_wbuf.specs.Sound.{SoundEntryTaking, SoundRoomFinding}
 use Rattle.gh_worker.specs.Blind as blind
 use Rattle.gh_worker.specs.Routine.{acknowledges, claims, hands_over, OwnStep, shades, WorkersAreRoutines, WritesAlone}
-use Rattle.gh_worker.specs.Sound.{marks, SoundStage, SoundWorking, writes}
-use Rattle.gh_worker.specs.Writing.{IsOutsideMarking}
-use Rattle.gh_worker.proofs.Vocabulary.{after_give, after_page, after_resume, after_room, after_scan, after_shade, after_sweep, after_take, Ask, asks, asks_at, at_stage, by_phase, by_stop, by_work, cell_of, Claim, counted, Done, done_with, Earning, EarningAtStop, EarnStage, FindRoom, GiveBack, gives_back, goes_at, handed_over, Held, Layout, Leave, LoadCursor, LoadGlobal, LoadPage, LoadPhase, page_of, PageWord, Phase, phase_of, reference_in, Resumed, ResumeStage, Resuming, Scanning, Shaded, Shading, SoundAt, sweep_at, SweepEnd, Sweeping, Taking, WorkerStage, Working}
+use Rattle.gh_worker.specs.declared.worker.WorkerStage.TheVariants.{Claim}
 
 pub record Known : Type 0 where
   pub footprints : FootprintsHold
@@ -40,11 +33,11 @@ pub record Known : Type 0 where
 
 -- the steps by which it hands over words, and those by which it acknowledges
 earn_own : (seat : ℕ) (e : earn.Earning) (p : EarnStage) → OwnStep seat (earn.asks_at e p)
-earn_own seat e earn_at.Add = hands_over e.words refl
-earn_own seat e earn_at.Ended = shades refl
+earn_own seat e EarnStage.Add = hands_over e.words refl
+earn_own seat e EarnStage.Ended = shades refl
 
 resume_own : (r : resume.Resuming) (p : ResumeStage) → OwnStep r.seat (resume.asks_at r p)
-resume_own r resume_at.Acknowledge = acknowledges r.stops refl
+resume_own r ResumeStage.Acknowledge = acknowledges r.stops refl
 resume_own r _ = shades refl
 
 -- what is taken is a reference, whatever word is found
@@ -93,93 +86,80 @@ module _ (l : Layout) (w : Working) (x : SoundWorking l w) where
   scan_so : (sc : scan.Scanning) (out : Option ℕ) → scan.given sc ≡ out → SoundScanning l sc → SoundWorking l (after_scan w sc out)
   scan_so sc out e s = grind (arith, done_so)
 
-  global_so : (found : ℕ) (b : Bool) → SoundWorking l (cond b (done_with w w.held 1) (at_stage w (Shading (shade.opening (reference_in l found) w.held))))
-  global_so found b = let there = x.page in grind (arith, done_so)
-
   shade_so : (sh : shade.Shading) (out : Option Shaded) → shade.given sh ≡ out → SoundShading l sh → SoundWorking l (after_shade w sh out)
   shade_so sh out e s = grind (arith, done_so)
 
   room_so : (sh : shade.Shading) (r : room.RoomFinding) (out : Option Held) → room.given r ≡ out → SoundShading l sh → sh.stage ≡ WaitForRoom → SoundRoomFinding l r → SoundWorking l (after_room w sh r out)
   room_so sh r out e s waits sound = grind (arith, nat_tests)
 
-  claim_so : (found : ℕ) (b : Bool) → ltb found l.globals ≡ b → SoundStage l (cond b (LoadGlobal found) LoadPhase)
-  claim_so found b e = grind (arith, nat_tests)
-
-  cursor_so : (b : Bool) → SoundStage l (cond b Claim LoadPhase)
-  cursor_so b = grind arith
-
   module _ (k : Known) where
     keeps_at : (p : WorkerStage) (found : ℕ) → found < 2 ^ 64 → SoundStage l p → SoundWorking l (goes_at l w p found)
     keeps_at LoadPhase found few s = at _ (phase_so (phase_of found).stops (phase_of found).phase (omega arith))
-    keeps_at LoadPage found few s = page_so (page_of found) (k.reads found few)
-    keeps_at (Sweeping sw) found few s = sweep_so (sweep.goes sw found) _ refl ((k.sweep l).keeps sw found few s.sound s.busy)
-    keeps_at (EarningAtStop e stops) found few s = handed_so _ (back_so stops w.held s.stops x.held)
-    keeps_at (GiveBack g stops) found few s = give_so (give.goes g found) stops _ refl ((k.give l).keeps g found few s.runs.sound s.runs.busy) s.stops
     keeps_at (Resuming r) found few s = resume_so (resume.goes r found) _ refl ((k.resume l).keeps r found few s.sound s.busy)
     keeps_at (Taking t) found few s = take_so (take.goes l t found) _ refl ((k.take l).keeps t found few s.sound s.busy) (taken_is t found s.busy)
     keeps_at (Scanning sc) found few s = scan_so (scan.goes l sc found) _ refl ((k.scan l).keeps sc found few s.sound s.busy)
-    keeps_at (Earning e) found few s = handed_so LoadPhase tt
-    keeps_at LoadCursor found few s = at _ (cursor_so (ltb found l.globals))
-    keeps_at Claim found few s = at _ (claim_so found (ltb found l.globals) refl)
-    keeps_at (LoadGlobal i) found few s = global_so found (found == 0)
-    keeps_at (Shading sh) found few s = shade_so (shade.goes sh found) _ refl ((k.shade l).keeps sh found few s.sound s.busy)
     keeps_at (FindRoom sh r) found few s = room_so sh (room.goes l r found) _ refl s.shade s.waits ((k.room l).keeps r found few s.runs.sound s.runs.busy)
-    keeps_at Leave found few s = at Done tt
-    keeps_at Done found few s = at Done tt
+    keeps_at _ found few s = let there = x.page in grind (arith, nat_tests, done_so, page_so, sweep_so, back_so, handed_so, give_so, resume_so, take_so, scan_so, shade_so, room_so, taken_is)
 
     within_at : (p : WorkerStage) → SoundStage l p → InRange l (cell_of (asks_at l w p))
     within_at LoadPage s = x.page
-    within_at (Sweeping sw) s = (k.sweep l).within sw s.sound s.busy
-    within_at (EarningAtStop e stops) s = (k.earn l).within e s.runs.sound s.runs.busy
-    within_at (GiveBack g stops) s = (k.give l).within g s.runs.sound s.runs.busy
-    within_at (Resuming r) s = (k.resume l).within r s.sound s.busy
     within_at (Taking t) s = (k.take l).within t s.sound s.busy
     within_at (Scanning sc) s = (k.scan l).within sc s.sound s.busy
-    within_at (Earning e) s = (k.earn l).within e s.sound s.busy
-    within_at (LoadGlobal i) s = s
-    within_at (Shading sh) s = (k.shade l).within sh s.sound s.busy
     within_at (FindRoom sh r) s = (k.room l).within r s.runs.sound s.runs.busy
-    within_at Leave s = x.seat.below
-    within_at _ s = tt
+    within_at _ s = let below = x.seat.below in grind arith
+
+-- the rows that it writes at a stage: those of the routine that it runs there
+abbrev pub rows_at : Layout → WorkerStage → Footprint
+rows_at l (Sweeping sw) = sweep.writes
+rows_at l (EarningAtStop e stops) = earn.writes
+rows_at l (GiveBack g stops) = (give.listing l).writes
+rows_at l (Resuming r) = resume.writes
+rows_at l (Taking t) = (take.listing l).writes
+rows_at l (Scanning sc) = scan.writes
+rows_at l (Earning e) = earn.writes
+rows_at l Claim = marks
+rows_at l (Shading sh) = shade.writes
+rows_at l (FindRoom sh r) = (room.listing l).writes
+rows_at l Leave = resume.writes
+rows_at l _ = scan.writes
 
 module _ (k : Known) (l : Layout) (w : Working) where
+  pub rows_so : (p : WorkerStage) → Writes (rows_at l p) (asks_at l w p)
+  rows_so (Sweeping sw) = (k.sweep l).writes sw
+  rows_so (EarningAtStop e stops) = (k.earn l).writes e
+  rows_so (GiveBack g stops) = (k.give l).writes g
+  rows_so (Resuming r) = (k.resume l).writes r
+  rows_so (Taking t) = (k.take l).writes t
+  rows_so (Scanning sc) = (k.scan l).writes sc
+  rows_so (Earning e) = (k.earn l).writes e
+  rows_so (Shading sh) = (k.shade l).writes sh
+  rows_so (FindRoom sh r) = (k.room l).writes r
+  rows_so _ = refl
+
   own_at : (p : WorkerStage) → SoundAt w p → sweep_at p ≡ None → OwnStep w.seat (asks_at l w p)
   own_at (Sweeping sw) s none = absurd (cc)
   own_at (EarningAtStop e stops) s none = earn_own w.seat e e.stage
-  own_at (GiveBack g stops) s none = shades (k.footprints.among (give.listing l).writes scan.writes _ refl ((k.give l).writes g))
   own_at (Resuming r) s none = subst (λ (seat : ℕ). OwnStep seat (resume.asks r)) s.seat_is (resume_own r r.stage)
-  own_at (Taking t) s none = shades (k.footprints.among (take.listing l).writes scan.writes _ refl ((k.take l).writes t))
-  own_at (Scanning sc) s none = shades ((k.scan l).writes sc)
   own_at (Earning e) s none = earn_own w.seat e e.stage
   own_at Claim s none = claims refl
-  own_at (Shading sh) s none = shades (k.footprints.among shade.writes scan.writes _ refl ((k.shade l).writes sh))
-  own_at (FindRoom sh r) s none = shades (k.footprints.among (room.listing l).writes scan.writes _ refl ((k.room l).writes r))
   own_at Leave s none = acknowledges _ refl
-  own_at _ s none = shades refl
+  own_at p s none = shades (k.footprints.among (rows_at l p) scan.writes (asks_at l w p) refl (rows_so p))
 
   marks_at : (p : WorkerStage) → sweep_at p ≡ None → Writes marks (asks_at l w p)
   marks_at (Sweeping sw) none = absurd (cc)
-  marks_at (EarningAtStop e stops) none = k.footprints.among earn.writes marks _ refl ((k.earn l).writes e)
-  marks_at (GiveBack g stops) none = k.footprints.among (give.listing l).writes marks _ refl ((k.give l).writes g)
-  marks_at (Resuming r) none = k.footprints.among resume.writes marks _ refl ((k.resume l).writes r)
-  marks_at (Taking t) none = k.footprints.among (take.listing l).writes marks _ refl ((k.take l).writes t)
-  marks_at (Scanning sc) none = k.footprints.among scan.writes marks _ refl ((k.scan l).writes sc)
-  marks_at (Earning e) none = k.footprints.among earn.writes marks _ refl ((k.earn l).writes e)
-  marks_at (Shading sh) none = k.footprints.among shade.writes marks _ refl ((k.shade l).writes sh)
-  marks_at (FindRoom sh r) none = k.footprints.among (room.listing l).writes marks _ refl ((k.room l).writes r)
-  marks_at _ none = refl
+  marks_at p none = k.footprints.among (rows_at l p) marks (asks_at l w p) refl (rows_so p)
 
   writes_at : (p : WorkerStage) → Writes writes (asks_at l w p)
-  writes_at (Sweeping sw) = k.footprints.among sweep.writes writes _ refl ((k.sweep l).writes sw)
-  writes_at p = k.footprints.among marks writes (asks_at l w p) refl (marks_at p refl)
+  writes_at (Sweeping sw) = k.footprints.among sweep.writes writes _ refl (rows_so (Sweeping sw))
+  writes_at p = k.footprints.among (rows_at l p) writes (asks_at l w p) refl (rows_so p)
 
   sweeps_at : (p : WorkerStage) (sw : sweep.Sweeping) → sweep_at p ≡ Some sw → Writes sweep.writes (asks_at l w p)
-  sweeps_at (Sweeping x) sw is = (k.sweep l).writes x
+  sweeps_at (Sweeping x) sw is = rows_so (Sweeping x)
   sweeps_at _ sw is = absurd (cc)
 
   rests_at : (p : WorkerStage) → IsOutsideMarking p → sweep_at p ≡ None → Writes resume.writes (asks_at l w p)
   rests_at (Sweeping sw) rests none = absurd (cc)
-  rests_at (Resuming r) rests none = (k.resume l).writes r
+  rests_at (Resuming r) rests none = rows_so (Resuming r)
   rests_at LoadPhase rests none = refl
   rests_at LoadPage rests none = refl
   rests_at Leave rests none = refl

@@ -1,11 +1,10 @@
 -- A worker runs the steps of sweeps, and begins one where it finds the head of an unswept span with marking off.
 use Rattle.std.proofs.Common.{◌≡◌, ℕ, Some, None, refl, sym, subst, arith}
+use Rattle.gh_worker.proofs.Vocabulary.{after_page, asks_at, goes_at, Layout, LoadPage, Looks, page_of, PageWord, sweep_at, sweep_in, WorkerStage, Working}
 use Rattle.gh_sweep.specs.Listing as sweep
 use Rattle.gh_sweep.specs.Running.{BeginsSweep, on_from}
 use Rattle.gh_worker.specs.Sweeping.{WorkersRunSweeps}
-use Rattle.gh_worker.specs.Places.{Looks}
 use Rattle.gh_worker.proofs.Places.{begins_at, looks_at}
-use Rattle.gh_worker.proofs.Vocabulary.{after_page, asks_at, goes_at, Layout, LoadPage, page_of, PageWord, sweep_at, sweep_in, WorkerStage, Working}
 
 on_at : (l : Layout) (w : Working) (sw : sweep.Sweeping) (p : WorkerStage) → sweep_at p ≡ Some sw → (asks_at l w p ≡ sweep.asks l sw) × ((found : ℕ) → sweep_in (goes_at l w p found) ≡ on_from sw found)
 on_at l w sw p is = grind arith

@@ -1,9 +1,8 @@
 -- What holds of either of two stages holds of the one that a worker goes on at.
-use Rattle.std.specs.Prelude.{◌≡◌, ℕ, Option}
-use Rattle.std.proofs.Common.{arith}
+use Rattle.std.proofs.Common.{arith, ◌≡◌, ℕ, Option}
+use Rattle.gh_worker.specs.Vocabulary.{Earning, EarningAtStop, Held, LoadPhase, WorkerStage}
 use Rattle.gh_credit.specs.Earning as earn
 use Rattle.gh_worker.specs.Listing.{gives_back, stops_at, with_work, Working}
-use Rattle.gh_worker.specs.Vocabulary.{Earning, EarningAtStop, Held, LoadPhase, WorkerStage}
 
 -- with so many words scanned and not handed over
 pub by_work : (P : WorkerStage → Type 0) (scan_work : ℕ) → P LoadPhase → P (Earning (earn.opening scan_work)) → P (with_work scan_work)

@@ -1,9 +1,9 @@
 -- What a worker hands over to the bank of credit: each word that it has scanned, once.
 use Rattle.std.specs.Prelude.{◌≡◌, ℕ, ◌+◌, ◌^◌, ◌<◌, true}
+use Rattle.gh_worker.specs.Vocabulary.{Ask, Layout}
 use Rattle.gh_credit.specs.Earning.{handed_by, LeavesOrAdds}
 use Rattle.gh_worker.specs.Handshake.{Sound}
 use Rattle.gh_worker.specs.Listing.{asks, goes, is_busy, opening, Working}
-use Rattle.gh_worker.specs.Vocabulary.{Ask, Layout}
 use Rattle.gh_worker.specs.Works.{words_done}
 
 -- what a step does to the words that are handed over, and to those that are not yet, where so many are scanned with it

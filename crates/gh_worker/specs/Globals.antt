@@ -1,12 +1,10 @@
 -- Which of the words that a worker counts are those of globals, and which global it has in hand.
 use Rattle.std.specs.Prelude.{◌≡◌, ℕ, ◌+◌, nat_lt, ◌==◌, if◌then◌else◌, ◌⊎◌}
-use Rattle.gh_base.specs.declared.cell.Ask.TheVariants.{Add as Adds}
-use Rattle.gh_base.specs.declared.cell.Cell.TheVariants.{Gcur}
+use Rattle.gh_worker.specs.Vocabulary.{Adds, Ask, Gcur, Layout, LoadGlobal, Scanning, Shading, WorkerStage}
 use Rattle.gh_scan.specs.Listing as scan
 use Rattle.gh_shade.specs.Listing as shade
 use Rattle.gh_worker.specs.Handshake.{IsMarking}
-use Rattle.gh_worker.specs.Listing.{asks, goes, Working}
-use Rattle.gh_worker.specs.Vocabulary.{Ask, FindRoom, Layout, LoadGlobal, Scanning, Shading, WorkerStage}
+use Rattle.gh_worker.specs.Listing.{asks, global_held, goes, Working}
 use Rattle.gh_worker.specs.Works.{scan_words, shading_word, words_done}
 use Rattle.gh_worker.specs.Writing.{IsCalm}
 
@@ -20,13 +18,6 @@ global_done _ found = 0
 abbrev pub object_done : Layout → WorkerStage → (found : ℕ) → ℕ
 object_done l (Scanning s) found = scan_words (scan.gives l s found)
 object_done l _ found = 0
-
--- it has a global in hand from where it has moved the cursor past it until it is done with it: 1, or 0
-abbrev pub global_held : WorkerStage → ℕ
-global_held (LoadGlobal i) = 1
-global_held (Shading sh) = 1
-global_held (FindRoom sh r) = 1
-global_held _ = 0
 
 -- the step moves the cursor past a global that there is: 1, or 0
 abbrev pub claimed_by : Layout → Ask → (found : ℕ) → ℕ

@@ -1,19 +1,9 @@
 -- Where a worker stands in the handshake of a stop.
 use Rattle.std.specs.Prelude.{◌≡◌, ℕ, ◌⊎◌, true, Option, Some, None}
-use Rattle.gh_base.specs.declared.cell.Ask.TheVariants.{Load}
-use Rattle.gh_base.specs.declared.cell.Cell.TheVariants as cell
-use Rattle.gh_base.specs.declared.held.Held.{Held}
-use Rattle.gh_base.specs.declared.layout.Layout.{Layout}
-use Rattle.gh_base.specs.Machines.{steps_of}
-use Rattle.gh_base.specs.Packing.{phase_of}
+use Rattle.gh_worker.specs.Vocabulary.{Awake, Cell, Done, Earning, EarningAtStop, Finished, first_party, GiveBack, Gives, Gone, Held, KeepsHandshake, Layout, Leave, Leaves, Load, LoadPage, LoadPhase, Mark, Party, phase_of, Resuming, run_phase, Stage, steps_of, Sweeping, WorkerStage}
 use Rattle.gh_credit.specs.Earning as earn
-use Rattle.gh_phase.specs.declared.view.RunPhase.TheVariants.{Mark, Finished}
-use Rattle.gh_phase.specs.Handshake.{Awake, first_party, Gives, Gone, KeepsHandshake, Leaves, Party, Stage}
 use Rattle.gh_phase.specs.Listing as resume
 use Rattle.gh_phase.specs.ResumePlaces as resumes
-use Rattle.gh_phase.specs.Views.{run_phase}
-use Rattle.gh_worker.specs.declared.worker.WorkerStage.{WorkerStage}
-use Rattle.gh_worker.specs.declared.worker.WorkerStage.TheVariants.{LoadPhase, EarningAtStop, GiveBack, Resuming, Taking, Scanning, Earning, LoadCursor, Claim, LoadGlobal, Shading, FindRoom, Leave, Done}
 use Rattle.gh_worker.specs.Listing.{asks, goes, is_busy, opening, Working}
 use Rattle.gh_worker.specs.Sound.{listing}
 
@@ -66,17 +56,17 @@ IsLeaving Leave = Unit {0}
 IsLeaving Done = Unit {0}
 IsLeaving _ = ⊥
 
--- it takes, scans or shades, claims a global, or hands over what it has scanned before it goes on
+-- it takes, scans or shades, claims a global, or hands over what it has scanned before it goes on: at no stage of the phase, of a page or a sweep, of a stop, or of leaving
 abbrev pub IsMarking : WorkerStage → Type 0
-IsMarking (Taking t) = Unit {0}
-IsMarking (Scanning s) = Unit {0}
-IsMarking (Earning e) = Unit {0}
-IsMarking LoadCursor = Unit {0}
-IsMarking Claim = Unit {0}
-IsMarking (LoadGlobal i) = Unit {0}
-IsMarking (Shading sh) = Unit {0}
-IsMarking (FindRoom sh r) = Unit {0}
-IsMarking _ = ⊥
+IsMarking LoadPhase = ⊥
+IsMarking LoadPage = ⊥
+IsMarking (Sweeping sw) = ⊥
+IsMarking (EarningAtStop e stops) = ⊥
+IsMarking (GiveBack g stops) = ⊥
+IsMarking (Resuming r) = ⊥
+IsMarking Leave = ⊥
+IsMarking Done = ⊥
+IsMarking _ = Unit {0}
 
 -- it was marking before the step, or finds with it that marking is on
 pub record FindsMarking (found : ℕ) (w : Working) (stage : WorkerStage) (to : Working) : Type 0 where
@@ -91,6 +81,6 @@ pub record WorkersKeepHandshake : Type 0 where
   -- and by each step
   pub keeps : (l : Layout) → KeepsHandshake (steps_of l (listing l)) Sound party_of stage_of
   -- it leaves only where it finds the last phase
-  pub leaves : (l : Layout) (w : Working) (found : ℕ) → is_busy w.stage ≡ true → IsLeaving (goes l w found).stage → IsLeaving w.stage ⊎ ((asks l w ≡ Load cell.Phase) × (run_phase (phase_of found).phase ≡ Some Finished))
+  pub leaves : (l : Layout) (w : Working) (found : ℕ) → is_busy w.stage ≡ true → IsLeaving (goes l w found).stage → IsLeaving w.stage ⊎ ((asks l w ≡ Load Cell.Phase) × (run_phase (phase_of found).phase ≡ Some Finished))
   -- it marks only where it finds that marking is on
   pub marks : (l : Layout) (w : Working) (found : ℕ) → is_busy w.stage ≡ true → IsMarking (goes l w found).stage → FindsMarking found w w.stage (goes l w found)

@@ -1,20 +1,24 @@
 -- The worker: what it asks for at each stage, where that leads, and when it is done.
 use Rattle.std.specs.Prelude.{ℕ, ◌+◌, ◌-◌, ◌^◌, Bool, true, false, min, nat_lt, ◌==◌, if◌then◌else◌, Option, Some, None, is_none}
-use Rattle.gh_base.specs.declared.cell.Cell.TheVariants as cell
+use Rattle.gh_worker.specs.Vocabulary.{Add, Ask, Cell, Claim, Done, Earning, EarningAtStop, FindRoom, first_view, GiveBack, Held, Layout, Leave, Load, LoadCursor, LoadGlobal, LoadPage, LoadPhase, Off, page_of, phase_of, Resuming, Scanning, Shaded, Shading, SpanSweep, Stop, Store, Sweeping, Taking, WorkerStage}
 use Rattle.gh_credit.specs.Earning as earn
 use Rattle.gh_phase.specs.declared.view.View.{View}
 use Rattle.gh_phase.specs.Listing as resume
-use Rattle.gh_phase.specs.Views.{first_view}
 use Rattle.gh_scan.specs.Listing as scan
-use Rattle.gh_shade.specs.declared.shade.Shaded.TheVariants as shaded
 use Rattle.gh_shade.specs.Listing as shade
 use Rattle.gh_sweep.specs.declared.sweep.SweepEnd.{SweepEnd}
 use Rattle.gh_sweep.specs.Listing as sweep
-use Rattle.gh_sweep.specs.Listing.{Sweeping as SpanSweep}
 use Rattle.gh_wbuf.specs.BufferGiving as give
 use Rattle.gh_wbuf.specs.EntryTaking as take
 use Rattle.gh_wbuf.specs.RoomFinding as room
-use Rattle.gh_worker.specs.Vocabulary.{Add, Ask, Claim, CREDIT_SLACK, Done, Earning, EarningAtStop, FindRoom, Finished, GiveBack, GONE, Free, Body, Head, Held, Layout, Leave, Load, LoadCursor, LoadGlobal, LoadPage, LoadPhase, Mark, Off, page_of, PageWord, Phase, phase_of, reference_in, Resumed, Resuming, Scanning, Shaded, Shading, Stop, Store, Sweeping, Taking, WorkerStage}
+use Rattle.gh_credit.specs.declared.earn.TheConstants.{CREDIT_SLACK}
+use Rattle.gh_base.specs.declared.pack.Phase.TheVariants.{Finished, Mark}
+use Rattle.gh_base.specs.declared.pack.TheConstants.{GONE}
+use Rattle.gh_base.specs.declared.pack.PageWord.TheVariants.{Free, Body, Head}
+use Rattle.gh_base.specs.declared.pack.PageWord.{PageWord}
+use Rattle.gh_base.specs.declared.pack.Phase.{Phase}
+use Rattle.gh_scan.specs.Listing.{reference_in}
+use Rattle.gh_phase.specs.declared.resume.Resumed.{Resumed}
 
 -- a worker: the buffer that it holds between its routines, what it knows of the phase, the words that it has scanned, those of them that it has not handed over to the bank of credit yet and those that it has, the page that it looks at next with marking off, and its stage
 pub record Working : Type 0 where
@@ -42,13 +46,20 @@ held_at held (Shading sh) = sh.held
 held_at held (FindRoom sh r) = room.held_at r.stage
 held_at held _ = held
 
+-- it has a global in hand from where it has moved the cursor past it until it is done with it: 1, or 0
+abbrev pub global_held : WorkerStage → ℕ
+global_held (LoadGlobal i) = 1
+global_held (Shading sh) = 1
+global_held (FindRoom sh r) = 1
+global_held _ = 0
+
 -- a count of words with so many more; it stands still at its type's end
 abbrev pub counted : (count words : ℕ) → ℕ
 counted count words = min (count + words) (2 ^ 64 - 1)
 
 abbrev pub asks_at : Layout → Working → WorkerStage → Ask
-asks_at l w LoadPhase = Load cell.Phase
-asks_at l w LoadPage = Load (cell.Page w.page)
+asks_at l w LoadPhase = Load Cell.Phase
+asks_at l w LoadPage = Load (Cell.Page w.page)
 asks_at l w (Sweeping sw) = sweep.asks l sw
 asks_at l w (EarningAtStop e stops) = earn.asks e
 asks_at l w (GiveBack g stops) = give.asks g
@@ -56,13 +67,13 @@ asks_at l w (Resuming r) = resume.asks r
 asks_at l w (Taking t) = take.asks t
 asks_at l w (Scanning s) = scan.asks l s
 asks_at l w (Earning e) = earn.asks e
-asks_at l w LoadCursor = Load cell.Gcur
-asks_at l w Claim = Add cell.Gcur 1
-asks_at l w (LoadGlobal i) = Load (cell.Global i)
+asks_at l w LoadCursor = Load Cell.Gcur
+asks_at l w Claim = Add Cell.Gcur 1
+asks_at l w (LoadGlobal i) = Load (Cell.Global i)
 asks_at l w (Shading sh) = shade.asks sh
 asks_at l w (FindRoom sh r) = room.asks r
-asks_at l w Leave = Store (cell.Ack w.seat) GONE
-asks_at l w Done = Load cell.Touch
+asks_at l w Leave = Store (Cell.Ack w.seat) GONE
+asks_at l w Done = Load Cell.Touch
 
 -- it acknowledges the stop of this number and goes on
 abbrev pub resuming : Working → (stops : ℕ) → WorkerStage
@@ -148,8 +159,8 @@ after_global l w found = if found == 0 then done_with w w.held 1 else at_stage w
 
 abbrev pub after_shade : Working → shade.Shading → Option Shaded → Working
 after_shade w sh None = at_stage w (Shading sh)
-after_shade w sh (Some shaded.Done) = done_with w sh.held 1
-after_shade w sh (Some shaded.WantsRoom) = at_stage w (FindRoom sh (room.opening w.seat sh.held))
+after_shade w sh (Some Shaded.Done) = done_with w sh.held 1
+after_shade w sh (Some Shaded.WantsRoom) = at_stage w (FindRoom sh (room.opening w.seat sh.held))
 
 abbrev pub after_room : Working → shade.Shading → room.RoomFinding → Option Held → Working
 after_room w sh r None = at_stage w (FindRoom sh r)

@@ -1,22 +1,16 @@
 -- What is known of a worker at each stage while marking is on, and what each step of its own is then. At each stage it has in hand what the stage says and nothing else, so at a stop, with its buffer given back, it has nothing.
 use Rattle.std.specs.Prelude.{◌≡◌, ℕ, ◌<◌, ◌≤◌, false, Option, Some, None}
-use Rattle.gh_base.specs.declared.held.Held.{Held}
-use Rattle.gh_base.specs.Cells.{seats_of}
+use Rattle.gh_worker.specs.Vocabulary.{cell_of, ClaimOf, Cycle, Hands, Held, InHand, IsMarked, NoClaim, nothing, ReadOf, seats_of, Shared, WorkerStage}
 use Rattle.gh_base.specs.Rows.{mark_words}
-use Rattle.gh_base.specs.Steps.{cell_of}
-use Rattle.gh_marks.specs.Colours.{Cycle, IsMarked, Shared}
 use Rattle.gh_marks.specs.Good.{Good}
 use Rattle.gh_marks.specs.Knows.{KnowsObjects}
 use Rattle.gh_marks.specs.Moves.{Others, Steps}
-use Rattle.gh_marks.specs.Seats.{Claim, ClaimOf, Hands, InHand, NoClaim, ReadOf, nothing}
+use Rattle.gh_marks.specs.Seats.{Claim}
 use Rattle.gh_scan.specs.Facts as scan_facts
 use Rattle.gh_shade.specs.declared.shade.ShadeStage.{ShadeStage}
-use Rattle.gh_shade.specs.declared.shade.ShadeStage.TheVariants as shade_stage
 use Rattle.gh_shade.specs.Facts as shade_facts
 use Rattle.gh_shade.specs.Listing as shade
 use Rattle.gh_wbuf.specs.Facts as buffer_facts
-use Rattle.gh_worker.specs.declared.worker.WorkerStage.{WorkerStage}
-use Rattle.gh_worker.specs.declared.worker.WorkerStage.TheVariants as worker
 use Rattle.gh_worker.specs.Listing.{Working, asks, goes, held_at, opening, sweep_in}
 
 -- What it has in hand: a buffer, and a global.
@@ -25,29 +19,23 @@ in_hand held claim = record nothing { held = held; claim = claim }
 
 -- a global is the worker's until its value is marked
 abbrev pub claim_at : (i reference : ℕ) → ShadeStage → Claim
-claim_at i reference shade_stage.LoadPage = ReadOf i reference
-claim_at i reference (shade_stage.SetMark noscan) = ReadOf i reference
-claim_at i reference shade_stage.WaitForRoom = NoClaim
-claim_at i reference shade_stage.Enter = NoClaim
-claim_at i reference shade_stage.Ended = NoClaim
+claim_at i reference ShadeStage.LoadPage = ReadOf i reference
+claim_at i reference (ShadeStage.SetMark noscan) = ReadOf i reference
+claim_at i reference ShadeStage.WaitForRoom = NoClaim
+claim_at i reference ShadeStage.Enter = NoClaim
+claim_at i reference ShadeStage.Ended = NoClaim
 
+-- what is known at each stage: at most of them no more than what it has in hand
 abbrev pub StageFacts : Cycle → (a : ℕ) → Shared → Option Held → WorkerStage → Type 0
-StageFacts z a s held worker.LoadPhase = Hands a s (in_hand held NoClaim)
-StageFacts z a s held worker.LoadPage = Hands a s (in_hand held NoClaim)
-StageFacts z a s held (worker.Sweeping sw) = Hands a s (in_hand held NoClaim)
-StageFacts z a s held (worker.EarningAtStop e stops) = Hands a s (in_hand held NoClaim)
-StageFacts z a s held (worker.GiveBack g stops) = buffer_facts.GiveFacts z a s nothing g
-StageFacts z a s held (worker.Resuming r) = Hands a s nothing × (held ≡ None)
-StageFacts z a s held (worker.Taking t) = buffer_facts.TakeFacts z a s nothing t
-StageFacts z a s held (worker.Scanning m) = scan_facts.Facts z a s nothing m
-StageFacts z a s held (worker.Earning e) = Hands a s (in_hand held NoClaim)
-StageFacts z a s held worker.LoadCursor = Hands a s (in_hand held NoClaim)
-StageFacts z a s held worker.Claim = (s.passed a ≡ false) × Hands a s (in_hand held NoClaim)
-StageFacts z a s held (worker.LoadGlobal i) = (i < z.arena.layout.globals) × Hands a s (in_hand held (ClaimOf i))
-StageFacts z a s held (worker.Shading sh) = (i : ℕ) × shade_facts.Facts z a s (in_hand None (claim_at i sh.reference sh.stage)) sh
-StageFacts z a s held (worker.FindRoom sh r) = (1 ≤ sh.reference) × IsMarked (mark_words s.words) (shade.object_of sh.reference) × buffer_facts.RoomFacts z a s (record nothing { pending = Some (shade.object_of sh.reference) }) r
-StageFacts z a s held worker.Leave = Hands a s (in_hand held NoClaim)
-StageFacts z a s held worker.Done = Hands a s (in_hand held NoClaim)
+StageFacts z a s held (WorkerStage.GiveBack g stops) = buffer_facts.GiveFacts z a s nothing g
+StageFacts z a s held (WorkerStage.Resuming r) = Hands a s nothing × (held ≡ None)
+StageFacts z a s held (WorkerStage.Taking t) = buffer_facts.TakeFacts z a s nothing t
+StageFacts z a s held (WorkerStage.Scanning m) = scan_facts.Facts z a s nothing m
+StageFacts z a s held WorkerStage.Claim = (s.passed a ≡ false) × Hands a s (in_hand held NoClaim)
+StageFacts z a s held (WorkerStage.LoadGlobal i) = (i < z.arena.layout.globals) × Hands a s (in_hand held (ClaimOf i))
+StageFacts z a s held (WorkerStage.Shading sh) = (i : ℕ) × shade_facts.Facts z a s (in_hand None (claim_at i sh.reference sh.stage)) sh
+StageFacts z a s held (WorkerStage.FindRoom sh r) = (1 ≤ sh.reference) × IsMarked (mark_words s.words) (shade.object_of sh.reference) × buffer_facts.RoomFacts z a s (record nothing { pending = Some (shade.object_of sh.reference) }) r
+StageFacts z a s held _ = Hands a s (in_hand held NoClaim)
 
 pub record Facts (z : Cycle) (a : ℕ) (s : Shared) (w : Working) : Type 0 where
   pub seat_is : w.seat ≡ a

@@ -1,19 +1,9 @@
 -- Where a worker is between two stops, and what it finds before it is there.
 use Rattle.std.specs.Prelude.{◌≡◌, ℕ, ◌⊎◌, true, Some}
-use Rattle.gh_base.specs.declared.cell.Ask.TheVariants.{Load}
-use Rattle.gh_base.specs.declared.cell.Cell.TheVariants as cell
-use Rattle.gh_base.specs.declared.layout.Layout.{Layout}
-use Rattle.gh_base.specs.Packing.{phase_of}
-use Rattle.gh_marks.specs.Colours.{Cycle, Shared}
-use Rattle.gh_marks.specs.Seats.{Hands, nothing}
+use Rattle.gh_worker.specs.Vocabulary.{Awake, Cell, Cycle, Gone, Hands, Layout, Load, LoadPage, Mark, nothing, phase_of, Resumes, run_phase, Shared, SpanSweep, Sweeping, WorkerStage}
 use Rattle.gh_phase.specs.declared.resume.ResumeStage.{ResumeStage}
 use Rattle.gh_phase.specs.declared.view.RunPhase.{RunPhase}
-use Rattle.gh_phase.specs.declared.view.RunPhase.TheVariants.{Mark, Off}
-use Rattle.gh_phase.specs.Handshake.{Awake, Gone, Resumes}
-use Rattle.gh_phase.specs.Views.{run_phase}
-use Rattle.gh_sweep.specs.Listing.{Sweeping as SpanSweep}
-use Rattle.gh_worker.specs.declared.worker.WorkerStage.{WorkerStage}
-use Rattle.gh_worker.specs.declared.worker.WorkerStage.TheVariants.{LoadPage, Sweeping}
+use Rattle.gh_phase.specs.declared.view.RunPhase.TheVariants.{Off}
 use Rattle.gh_worker.specs.Handshake.{IsLeaving, IsMarking, party_of, Sound, stage_of}
 use Rattle.gh_worker.specs.Listing.{asks, goes, is_busy, sweep_in, Working}
 use Rattle.gh_worker.specs.MarkFacts.{StageFacts}
@@ -32,7 +22,7 @@ pub record IsAtWork (w : Working) : Type 0 where
 
 -- so it is between two steps of its work, where it loads the phase
 pub record Polls (w : Working) : Type 0 where
-  pub asks_it : (l : Layout) → asks l w ≡ Load cell.Phase
+  pub asks_it : (l : Layout) → asks l w ≡ Load Cell.Phase
   pub works : IsAtWork w
 
 -- it was there before the step, or finds with it that this is the phase

@@ -1,28 +1,21 @@
--- A worker is a routine, and what its steps write and leave.
-use Rattle.std.specs.Prelude.{◌≡◌, ℕ, false, Some, None}
-use Rattle.gh_base.specs.declared.cell.Ask.{Ask}
-use Rattle.gh_base.specs.declared.cell.Ask.TheVariants.{Add, Store}
-use Rattle.gh_base.specs.declared.cell.Cell.{Cell}
-use Rattle.gh_base.specs.declared.cell.Cell.TheVariants as cell
-use Rattle.gh_base.specs.declared.layout.Layout.{Layout}
-use Rattle.gh_base.specs.Cells.{Words}
-use Rattle.gh_base.specs.Footprints.{Footprint, row_of, Writes}
-use Rattle.gh_base.specs.Machines.{IsRoutine}
-use Rattle.gh_base.specs.Steps.{effect}
+-- A worker is a routine, what its steps write and leave, and that each is on a word that there is.
+use Rattle.std.specs.Prelude.{◌≡◌, ℕ, ◌≤◌, false, Some, None}
+use Rattle.gh_worker.specs.Vocabulary.{Add, Ask, Cell, cell_of, effect, Footprint, IsRoutine, Layout, row_of, Store, Words, Writes}
+use Rattle.gh_base.specs.Cells.{InRange}
 use Rattle.gh_phase.specs.Listing as resume
 use Rattle.gh_scan.specs.Listing as scan
 use Rattle.gh_sweep.specs.Listing as sweep
 use Rattle.gh_worker.specs.Handshake.{Sound}
-use Rattle.gh_worker.specs.Listing.{asks, opening, sweep_in, Working}
-use Rattle.gh_worker.specs.Sound.{IsWorkersSeat, listing, marks, SoundWorking, writes}
+use Rattle.gh_worker.specs.Listing.{asks, goes, opening, sweep_in, Working}
+use Rattle.gh_worker.specs.Sound.{IsWorkersSeat, listing, marks, SoundWorking, StandsWithin, writes}
 use Rattle.gh_worker.specs.Writing.{IsCalm}
 
 -- A step of a worker that sweeps no span: it loads, or writes marks, buffers and their entries; it claims the next global; it hands over words to the bank of credit; or it acknowledges for its own seat.
 pub data OwnStep (seat : ℕ) (step : Ask) : Type 0 where
   shades : Writes scan.writes step → OwnStep seat step
-  claims : step ≡ Add cell.Gcur 1 → OwnStep seat step
-  hands_over : (words : ℕ) → step ≡ Add cell.Bank words → OwnStep seat step
-  acknowledges : (stops : ℕ) → step ≡ Store (cell.Ack seat) stops → OwnStep seat step
+  claims : step ≡ Add Cell.Gcur 1 → OwnStep seat step
+  hands_over : (words : ℕ) → step ≡ Add Cell.Bank words → OwnStep seat step
+  acknowledges : (stops : ℕ) → step ≡ Store (Cell.Ack seat) stops → OwnStep seat step
 
 -- each word of another row stays, whatever the words are
 abbrev pub LeavesOthers : Footprint → Ask → Type 0
@@ -43,3 +36,9 @@ pub record WorkersAreRoutines : Type 0 where
   pub marks_alone : (l : Layout) (w : Working) → sweep_in w ≡ None → WritesAlone marks (asks l w)
   pub rests_alone : (l : Layout) (w : Working) → IsCalm w → sweep_in w ≡ None → WritesAlone resume.writes (asks l w)
   pub own_step : (l : Layout) (w : Working) → Sound w → sweep_in w ≡ None → OwnStep w.seat (asks l w)
+
+-- whatever is found, be it no word of 64 bits, each of its steps is on a word that there is
+pub record WorkersStayWithin : Type 0 where
+  pub at_first : (l : Layout) (seat : ℕ) → 1 ≤ l.pages → IsWorkersSeat l seat → StandsWithin l (opening seat)
+  pub stays : (l : Layout) (w : Working) (found : ℕ) → StandsWithin l w → StandsWithin l (goes l w found)
+  pub within : (l : Layout) (w : Working) → StandsWithin l w → InRange l (cell_of (asks l w))

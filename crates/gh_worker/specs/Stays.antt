@@ -1,6 +1,6 @@
 -- A worker has given nothing exactly where it asks for a further step.
 use Rattle.std.specs.Prelude.{◌≡◌, ℕ, true, ◌↔◌, IsNone}
-use Rattle.gh_base.specs.declared.layout.Layout.{Layout}
+use Rattle.gh_worker.specs.Vocabulary.{Layout}
 use Rattle.gh_base.specs.Given.{is_over}
 use Rattle.gh_worker.specs.Listing.{given, goes, is_busy, Working}
 

@@ -1,13 +1,9 @@
 -- A worker that sweeps runs the steps of sweeps, one span after the other, and begins each where it has found that marking is off.
 use Rattle.std.specs.Prelude.{◌≡◌, ℕ, Some, None}
-use Rattle.gh_base.specs.declared.cell.Ask.TheVariants.{Load}
+use Rattle.gh_worker.specs.Vocabulary.{Layout, Load, LoadPage, Off, phase_of}
 use Rattle.gh_base.specs.declared.cell.Cell.TheVariants.{Phase}
-use Rattle.gh_base.specs.declared.layout.Layout.{Layout}
-use Rattle.gh_base.specs.declared.pack.Phase.TheVariants.{Off}
-use Rattle.gh_base.specs.Packing.{phase_of}
 use Rattle.gh_sweep.specs.Listing.{Sweeping}
 use Rattle.gh_sweep.specs.Running.{RunsSweeps}
-use Rattle.gh_worker.specs.declared.worker.WorkerStage.TheVariants.{LoadPage}
 use Rattle.gh_worker.specs.Listing.{asks, goes, opening, sweep_in, Working}
 
 pub record WorkersRunSweeps : Type 0 where

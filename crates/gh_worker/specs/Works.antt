@@ -1,12 +1,11 @@
 -- What a worker counts: the words that it has scanned.
 use Rattle.std.specs.Prelude.{◌≡◌, ℕ, zero, suc, ◌+◌, ◌-◌, ◌^◌, min, ◌==◌, if◌then◌else◌, Option, Some, None}
-use Rattle.gh_base.specs.Machines.{steps_of}
+use Rattle.gh_worker.specs.Vocabulary.{Layout, LoadGlobal, Scanning, Shaded, Shading, steps_of, WorkerStage}
 use Rattle.gh_scan.specs.Listing as scan
-use Rattle.gh_shade.specs.declared.shade.Shaded.TheVariants as shaded
 use Rattle.gh_shade.specs.Listing as shade
 use Rattle.gh_worker.specs.Listing.{opening, Working}
 use Rattle.gh_worker.specs.Sound.{listing}
-use Rattle.gh_worker.specs.Vocabulary.{Layout, LoadGlobal, Scanning, Shaded, Shading, told, WorkerStage}
+use Rattle.gh_base.specs.Routines.{told}
 
 -- the words that are done with a step: those of an object whose scan ends, and one for a global that is nil or whose shading ends
 abbrev pub scan_words : Option ℕ → ℕ
@@ -14,7 +13,7 @@ scan_words None = 0
 scan_words (Some words) = words
 
 abbrev pub shading_word : Option Shaded → ℕ
-shading_word (Some shaded.Done) = 1
+shading_word (Some Shaded.Done) = 1
 shading_word _ = 0
 
 abbrev pub words_done : Layout → WorkerStage → (found : ℕ) → ℕ

@@ -1,22 +1,16 @@
 -- Which words a worker writes, and when it writes none of marking.
 use Rattle.std.specs.Prelude.{◌≡◌, ℕ, ◌⊎◌, true, None}
-use Rattle.gh_base.specs.declared.cell.Ask.{Ask}
-use Rattle.gh_base.specs.declared.cell.Ask.TheVariants.{Load, Store, Or, And, Add, Swap}
-use Rattle.gh_base.specs.declared.cell.Cell.{Cell}
-use Rattle.gh_base.specs.declared.cell.Cell.TheVariants as cell
-use Rattle.gh_base.specs.declared.layout.Layout.{Layout}
+use Rattle.gh_worker.specs.Vocabulary.{Add, And, Ask, Cell, Done, Layout, Leave, Load, LoadPage, LoadPhase, Or, Resuming, Store, Swap, Sweeping, WorkerStage}
 use Rattle.gh_phase.specs.Listing as resume
-use Rattle.gh_worker.specs.declared.worker.WorkerStage.{WorkerStage}
-use Rattle.gh_worker.specs.declared.worker.WorkerStage.TheVariants.{LoadPhase, LoadPage, Sweeping, Resuming, Leave, Done}
 use Rattle.gh_worker.specs.Handshake.{IsMarking, Sound}
 use Rattle.gh_worker.specs.Listing.{asks, goes, is_busy, opening, sweep_in, Working}
 
 -- a word of a buffer, an entry of one, a word of marks, or this seat's acknowledgement
 abbrev pub IsWritten : (seat : ℕ) → Cell → Type 0
-IsWritten seat (cell.Buffer b) = Unit {0}
-IsWritten seat (cell.Entry b j) = Unit {0}
-IsWritten seat (cell.Mark i) = Unit {0}
-IsWritten seat (cell.Ack a) = a ≡ seat
+IsWritten seat (Cell.Buffer b) = Unit {0}
+IsWritten seat (Cell.Entry b j) = Unit {0}
+IsWritten seat (Cell.Mark i) = Unit {0}
+IsWritten seat (Cell.Ack a) = a ≡ seat
 IsWritten seat _ = ⊥
 
 -- a load; or a write of one of these; or the cursor is moved by one global, or words are added to the bank of credit
@@ -25,7 +19,7 @@ WritesItsOwn seat (Load c) = Unit {0}
 WritesItsOwn seat (Store c value) = IsWritten seat c
 WritesItsOwn seat (Or c bits) = IsWritten seat c
 WritesItsOwn seat (And c bits) = IsWritten seat c
-WritesItsOwn seat (Add c more) = ((c ≡ cell.Gcur) × (more ≡ 1)) ⊎ (c ≡ cell.Bank)
+WritesItsOwn seat (Add c more) = ((c ≡ Cell.Gcur) × (more ≡ 1)) ⊎ (c ≡ Cell.Bank)
 WritesItsOwn seat (Swap c old new) = IsWritten seat c
 
 abbrev pub WorkersWriteTheirOwn : Type 0
@@ -50,7 +44,7 @@ pub record IsCalm (w : Working) : Type 0 where
 -- a load, or a store of this seat's acknowledgement
 abbrev pub AcksAlone : (seat : ℕ) → Ask → Type 0
 AcksAlone seat (Load c) = Unit {0}
-AcksAlone seat (Store (cell.Ack a) value) = a ≡ seat
+AcksAlone seat (Store (Cell.Ack a) value) = a ≡ seat
 AcksAlone seat _ = ⊥
 
 pub record CalmWorkersMarkNothing : Type 0 where

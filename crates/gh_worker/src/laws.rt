@@ -6,11 +6,12 @@ ghost use Rattle.gh_worker.specs.Globals.{WorkersCountGlobals};
 ghost use Rattle.gh_worker.specs.Handshake.{WorkersKeepHandshake};
 ghost use Rattle.gh_worker.specs.MarkFacts.{WorksByMoves};
 ghost use Rattle.gh_worker.specs.Places.{WorkersKeepPlaces};
-ghost use Rattle.gh_worker.specs.Routine.{WorkersAreRoutines};
+ghost use Rattle.gh_worker.specs.Routine.{WorkersAreRoutines, WorkersStayWithin};
 ghost use Rattle.gh_worker.specs.Sweeping.{WorkersRunSweeps};
 ghost use Rattle.gh_worker.specs.Works.{WordsAreCounted};
 ghost use Rattle.gh_worker.specs.Writing.{CalmWorkersMarkNothing, WorkersWriteTheirOwn};
 
+use gh_assist::laws::taking_and_scanning_are_within;
 use gh_base::laws::{footprints_hold, packed_words_are_read_back};
 use gh_credit::laws::earning_is_a_routine;
 use gh_marks::laws::{facts_last, hands_follow, steps_go_by_moves, the_cursor_is_small};
@@ -38,6 +39,14 @@ pub fn workers_are_routines()
     shading_is_a_routine();
     room_search_is_a_routine();
     the_sweep_is_a_routine();
+}
+
+/// Each step of a worker is on a word that there is, whatever it finds: be that no word of 64 bits, as in a list of steps that no
+/// run has.
+pub fn workers_stay_within()
+    ensures { WorkersStayWithin }
+{
+    taking_and_scanning_are_within();
 }
 
 /// A worker's count is that of the words which it has scanned: those of each object whose scan has ended,

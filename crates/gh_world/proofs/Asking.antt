@@ -1,18 +1,8 @@
 -- Among the turns of a processor each of its goroutines asks as often as it has `new` and `gc`, and each has ended before the leave.
-use Rattle.std.proofs.Common.{◌≡◌, ℕ, zero, suc, ◌+◌, ◌<◌, ◌≤◌, Bool, true, false, cond, eqb, leb, ltb, ◌&&◌, ◌||◌, List, [], ◌∷◌, ◌++◌, map, length, reverse, Option, Some, None, refl, sym, ap, ◌∙◌, arith, inl, inr}
-use Rattle.std.specs.Prelude.{not}
-use Rattle.std.specs.List.{filter, flat_map, range_with_len}
-use Rattle.std.proofs.lemmas.Bool.{cases_lt, le-leb, lt-ltb}
-use Rattle.std.proofs.lemmas.Grind.{reverse_onto}
-use Rattle.std.proofs.lemmas.List.Elements.{filter-append}
+use Rattle.std.proofs.Common.{◌≡◌, ℕ, zero, suc, ◌+◌, ◌<◌, ◌≤◌, Bool, true, false, cond, eqb, leb, ltb, ◌&&◌, ◌||◌, List, [], ◌∷◌, ◌++◌, map, length, reverse, Option, Some, None, refl, sym, ap, ◌∙◌, arith, inl, inr, not, slice_get}
+use Rattle.std.proofs.lemmas.Bool.{le-leb, lt-ltb, eq-eqb}
 use Rattle.std.proofs.lemmas.List.{length-append}
-use Rattle.gh_world.specs.Vocabulary.{statements_of, Stmt, work_at}
-use Rattle.gh_base.specs.declared.operation.Op.TheVariants as op
-use Rattle.gh_script.specs.Program.{statement_as_op}
-use Rattle.gh_lists.specs.Processors.{asked_by, asks_collector}
-use Rattle.gh_world.specs.Turns.{count_of, is_of_seat, is_statement_of, round_of, turn_of}
-use Rattle.gh_world.specs.Wishes.{may_ask, wishes_among, wishes_of}
-use Rattle.gh_world.proofs.Vocabulary.{all_ended, Arena, begun_in, ended_in, ends, Entry, eq-eqb, Op, option_to_list, Program, slice_get, slice_get_past, total_of, turns_of}
+use Rattle.gh_world.proofs.Vocabulary.{all_ended, Arena, asked_by, asks_collector, begun_in, cases_lt, count_of, ended_in, ends, Entry, filter, filter-append, flat_map, is_of_seat, is_statement_of, may_ask, Op, option_to_list, Program, range_with_len, reverse_onto, round_of, slice_get_past, statement_as_op, statements_of, Stmt, total_of, turn_of, turns_of, wishes_among, wishes_of, work_at}
 use Rattle.gh_world.proofs.EachOnce.{turns_away, turns_mine}
 use Rattle.gh_world.proofs.Turning.{count-le}
 
@@ -136,8 +126,8 @@ module _ (p : Program) (a g : ℕ) (there : g < length p.goroutines) (its : is_o
   turn_ends =
       let live : leb (count_of p g) (count_of p g) ≡ true = le-leb (count_of p g) (count_of p g) (omega arith) in
       let none = slice_get_past (statements_of p g) (count_of p g) (omega arith) in
-      ap (λ (b : Bool). ended_among g (cond b (op.Poll ∷ work_at g (slice_get (statements_of p g) (count_of p g)) ∷ []) [])) (ap (λ (b : Bool). b && leb (count_of p g) (count_of p g)) its ∙ live)
-      ∙ ap (λ (s : Option Stmt). ended_among g (op.Poll ∷ work_at g s ∷ [])) none
+      ap (λ (b : Bool). ended_among g (cond b (Op.Poll ∷ work_at g (slice_get (statements_of p g) (count_of p g)) ∷ []) [])) (ap (λ (b : Bool). b && leb (count_of p g) (count_of p g)) its ∙ live)
+      ∙ ap (λ (s : Option Stmt). ended_among g (Op.Poll ∷ work_at g s ∷ [])) none
       ∙ ap (λ (b : Bool). b || false) (eq-eqb g g refl)
 
   pub turns_end : ended_among g (turns_of p a) ≡ true
@@ -145,13 +135,13 @@ module _ (p : Program) (a g : ℕ) (there : g < length p.goroutines) (its : is_o
   turns_end =
       let round : ended_among g (round_of p a (count_of p g)) ≡ true = among_pieces g (turn_of p a (count_of p g)) (length p.goroutines) 0 g (omega arith) (omega arith) turn_ends in
       let rounds = among_pieces g (round_of p a) (total_of p + 1) 0 (count_of p g) (omega arith) (omega (arith, count-le p g there)) round in
-      ended_append g (flat_map (round_of p a) (range_with_len 0 (total_of p + 1))) (op.Leave ∷ []) ∙ ap (λ (b : Bool). b || false) rounds
+      ended_append g (flat_map (round_of p a) (range_with_len 0 (total_of p + 1))) (Op.Leave ∷ []) ∙ ap (λ (b : Bool). b || false) rounds
 
   -- where the leave is what comes next, it has ended
-  pub ended_then : (es : List (Entry Op)) → turns_of p a ≡ reverse (begun_in es) ++ op.Leave ∷ [] → ended_in es g ≡ true
+  pub ended_then : (es : List (Entry Op)) → turns_of p a ≡ reverse (begun_in es) ++ Op.Leave ∷ [] → ended_in es g ≡ true
   ended_then es turns = grind (arith, ended_append, ended_begun, ended_reverse, or_false, turns_end)
 
-pub all_then : (p : Program) (z : Arena) (a : ℕ) (es : List (Entry Op)) → ((g : ℕ) → eqb (z.seat_of g) a ≡ is_of_seat p a g) → (n : ℕ) → n ≤ length p.goroutines → turns_of p a ≡ reverse (begun_in es) ++ op.Leave ∷ [] → all_ended z a es n ≡ true
+pub all_then : (p : Program) (z : Arena) (a : ℕ) (es : List (Entry Op)) → ((g : ℕ) → eqb (z.seat_of g) a ≡ is_of_seat p a g) → (n : ℕ) → n ≤ length p.goroutines → turns_of p a ≡ reverse (begun_in es) ++ Op.Leave ∷ [] → all_ended z a es n ≡ true
 all_then p z a es seats zero le turns = refl
 all_then p z a es seats (suc n) le turns = go (eqb (z.seat_of n) a) (all_ended z a es n) refl (all_then p z a es seats n (omega arith) turns) where
   go : (b c : Bool) → eqb (z.seat_of n) a ≡ b → c ≡ true → ((not b || ended_in es n) && c) ≡ true

@@ -1,17 +1,15 @@
--- An operation of one step that is begun and ended at once.
-use Rattle.std.proofs.Common.{◌≡◌, ℕ, Bool, true, false, List, refl, sym, ◌∙◌, ap, None, Some, arith}
-use Rattle.gh_base.specs.declared.operation.Op.TheVariants as op
-use Rattle.gh_mutator.specs.Mutating.{asks, begins, goes}
-use Rattle.gh_mutator.specs.PollRoom.{PollsMakeRoom}
-use Rattle.gh_world.specs.Turns.{Follows, is_poll_due, is_run_due, op_due}
-use Rattle.gh_world.specs.Vocabulary.{acting, is_last, WellFormed}
-use Rattle.gh_world.specs.World.{event_at, SoundTurns, found_for, LaysOut, now_of, op_at_turn, Ran}
-use Rattle.gh_world.specs.declared.runner.Runner.{Runner}
-use Rattle.gh_world.proofs.Vocabulary.{acts, cell_of, changed, Event, has_left_at, InRange, is_busy_at, is_point, Layout, Next, Op, Program, progress_after, request, statement_answer}
+-- A step that is made in its place: an operation of one step, and one of what is begun.
+use Rattle.std.proofs.Common.{◌≡◌, ℕ, Bool, true, false, List, refl, sym, ◌∙◌, ap, subst, slice_index, None, Some, arith}
+use Rattle.std.proofs.lemmas.Grind.{common_steps}
+use Rattle.gh_world.proofs.Vocabulary.{acting, acts, Ask, asks, cell_of, changed, Event, event_at, Follows, found_for, goes, has_left_at, InRange, is_busy_at, is_last, is_point, is_poll_due, is_run_due, Layout, LaysOut, Mutating, Next, now_of, Op, op_at_turn, op_due, PollsMakeRoom, Program, progress_after, Ran, request, Runner, SoundTurns, statement_answer, target, WellFormed}
+use Rattle.gh_base.specs.declared.cell.Ask.TheVariants.{Load}
+use Rattle.gh_base.specs.declared.cell.Cell.{Cell}
+use Rattle.gh_mutator.specs.Mutating.{begins}
+use Rattle.gh_world.specs.World.{found_by_step, MakesAtOnce}
 use Rattle.gh_world.proofs.Fitting.{busy_begun, fit_begun}
 
 -- a poll is the point of no statement
-pub polls_no_point : (b : Bool) → false ≡ is_point (acting b op.Poll false)
+pub polls_no_point : (b : Bool) → false ≡ is_point (acting b Op.Poll false)
 polls_no_point b = grind arith
 
 module _ (p : Program) (l : Layout) (script : WellFormed p) (layout : LaysOut p l) (a : ℕ) (x : Runner) (f : SoundTurns p a x.mutator x.progress) (polls : PollsMakeRoom) (o : Op) (new : Next) where
@@ -35,6 +33,25 @@ module _ (p : Program) (l : Layout) (script : WellFormed p) (layout : LaysOut p 
         says = says;
         point = point;
       }
+
+-- ---- a load that is made in its place
+
+-- which changes no word
+loads_words : (l : Layout) (words : List ℕ) (c : Cell) → words ≡ changed (request l (Load c)) words
+loads_words l words c = grind (arith, common_steps)
+
+pub loads_only : (l : Layout) (words : List ℕ) (old new : Mutating) (c : Cell) (found : ℕ) → asks l old ≡ Load c → InRange l c → found ≡ slice_index words (target (request l (Load c))) → new ≡ goes l old found →
+    is_last old.processor.task ≡ false → is_point (acts l old.processor found) ≡ false → statement_answer l old.processor found ≡ None → MakesAtOnce l words words old new false None
+loads_only l words old new c found asked within is after last point answers =
+    let told : found ≡ found_by_step l words old = is ∙ ap (λ (a : Ask). slice_index words (target (request l a))) (sym asked) in
+    record {
+      within = subst (λ (a : Ask). InRange l (cell_of a)) (sym asked) within;
+      words = subst (λ (a : Ask). words ≡ changed (request l a) words) (sym asked) (loads_words l words c);
+      goes = after ∙ ap (goes l old) told;
+      last = last;
+      point = subst (λ (n : ℕ). is_point (acts l old.processor n) ≡ false) told point;
+      answers = subst (λ (n : ℕ). statement_answer l old.processor n ≡ None) told answers;
+    }
 
 -- ---- a step of what is begun
 

@@ -1,12 +1,8 @@
 -- The words of credit that the processors of a world have drawn: no other actor has drawn any.
-use Rattle.std.proofs.Common.{◌≡◌, ℕ, zero, suc, ◌+◌, ◌-◌, ◌≤◌, length, ap, ◌∙◌, arith, Option}
-use Rattle.std.specs.Prelude.{slice_get}
+use Rattle.std.proofs.Common.{◌≡◌, ℕ, zero, suc, ◌+◌, ◌-◌, ◌≤◌, length, ap, ◌∙◌, arith, Option, slice_get}
+use Rattle.gh_world.proofs.Vocabulary.{actor_of, drawn_of, spent_among, spent_at, State, total, worker_or}
 use Rattle.gh_coord.specs.Listing as coord
 use Rattle.gh_worker.specs.Listing as worker
-use Rattle.gh_law.specs.Credit.{spent_among, spent_at}
-use Rattle.gh_world.specs.Runs.{drawn_of}
-use Rattle.gh_lists.specs.Wants.{total}
-use Rattle.gh_world.specs.World.{actor_of, State, worker_or}
 use Rattle.gh_world.proofs.Parts.{other_here}
 
 total_more : (f : ℕ → ℕ) (n k : ℕ) → ((i : ℕ) → n ≤ i → f i ≡ 0) → total f (n + k) ≡ total f n

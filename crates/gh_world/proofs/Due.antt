@@ -1,18 +1,7 @@
 -- What is due in a world's turns may begin: it is in range, there is a name for what it makes, and its goroutine goes on.
-use Rattle.std.proofs.Common.{◌≡◌, ℕ, ◌+◌, ◌<◌, ◌≤◌, Bool, true, false, ltb, ◌&&◌, List, [], length, refl, subst, Option, Some, None, arith}
-use Rattle.std.specs.Prelude.{slice_get}
-use Rattle.std.proofs.lemmas.Bool.Decides.{nat_tests}
+use Rattle.std.proofs.Common.{◌≡◌, ℕ, ◌+◌, ◌<◌, ◌≤◌, Bool, true, false, ltb, ◌&&◌, List, [], length, refl, subst, Option, Some, None, arith, slice_get}
 use Rattle.std.proofs.lemmas.Bool.{lt-ltb}
-use Rattle.std.proofs.lemmas.List.Elements.{All-get_or}
-use Rattle.std.proofs.lemmas.Option.{get_or_from_slice_get}
-use Rattle.gh_world.specs.Vocabulary.{Op, Shape, Layout, Entry, IsLayoutOf, bit, Stmt, Program, no_goroutine, statements_of, WellFormed, Processor, Task, Next, most_objects, has_names, is_statement, is_leaving, has_left_at, work_at, work_of, is_busy_at}
-use Rattle.gh_base.specs.declared.operation.Op.TheVariants as op
-use Rattle.gh_script.specs.Program.{goroutine_at as goroutine_there, statement_as_op, IsStatement, AreStatements}
-use Rattle.gh_world.specs.declared.turns.Next.TheVariants as next
-use Rattle.gh_lists.specs.Order.{in_range, goroutine_of, goroutine_is_over, ends, ended_in, leaves}
-use Rattle.gh_mutator.specs.Sound.{SoundOp}
-use Rattle.gh_world.specs.Turns.{count_of, total_of, to_come, Stands, MayBeOver, IsPast, leave_is_begun, op_due, is_leave, its_goroutine, statements_among}
-use Rattle.gh_world.specs.World.{MadeAtMost}
+use Rattle.gh_world.proofs.Vocabulary.{All-get_or, AreStatements, bit, count_of, ended_in, ends, Entry, get_or_from_slice_get, goroutine_is_over, goroutine_of, goroutine_there, has_left_at, has_names, in_range, is_busy_at, is_leave, is_leaving, is_statement, IsLayoutOf, IsPast, IsStatement, its_goroutine, Layout, leave_is_begun, leaves, MadeAtMost, MayBeOver, most_objects, nat_tests, Next, no_goroutine, Op, op_due, Processor, Program, Shape, SoundOp, Stands, statement_as_op, statements_among, statements_of, Stmt, Task, to_come, total_of, WellFormed, work_at, work_of}
 use Rattle.gh_world.proofs.Turning.{has_statement}
 
 -- an operation that is in range of the layout
@@ -74,7 +63,7 @@ not_over p t o e h = grind arith
 pub due_statement : (p : Program) (a : ℕ) (t : Next) (o : Op) → op_due p t ≡ Some o → is_statement o ≡ true → 1 ≤ statements_among (to_come p a t)
 due_statement p a t o e sure = grind arith
 
-pub ends_is : (o : Op) (g : ℕ) → ends (Some o) g ≡ true → o ≡ op.End g
+pub ends_is : (o : Op) (g : ℕ) → ends (Some o) g ≡ true → o ≡ Op.End g
 ends_is o g e = grind arith
 
 pub leaves_is : (o : Op) → leaves (Some o) ≡ is_leave o
@@ -84,10 +73,10 @@ pub idle_not_leaving : (t : Task) → is_busy_at t ≡ false → has_left_at t �
 idle_not_leaving t h k = grind arith
 
 pub has_due : (p : Program) (t : Next) → leave_is_begun t ≡ false → (o : Op) × (op_due p t ≡ Some o)
-has_due p (next.Poll n g) h = (op.Poll, refl)
-has_due p (next.Run n g) h = (work_of p n g, refl)
-has_due p next.Leave h = (op.Leave, refl)
-has_due p next.Over h = absurd cc
+has_due p (Next.Poll n g) h = (Op.Poll, refl)
+has_due p (Next.Run n g) h = (work_of p n g, refl)
+has_due p Next.Leave h = (Op.Leave, refl)
+has_due p Next.Over h = absurd cc
 
 -- where nothing is due, nothing is to come
 pub none_due : (p : Program) (a : ℕ) (t : Next) → op_due p t ≡ None → to_come p a t ≡ []

@@ -1,26 +1,15 @@
 -- Each goroutine's statements stand among the turns of its processor each once and in their order, and its answers are theirs.
-use Rattle.std.proofs.Common.{◌≡◌, ℕ, zero, suc, ◌+◌, ◌<◌, ◌≤◌, Bool, true, false, cond, eqb, leb, ◌&&◌, List, [], ◌∷◌, ◌++◌, map, length, drop, Option, Some, None, refl, sym, ap, subst, ◌∙◌, arith, inl, inr}
-use Rattle.std.specs.Prelude.{slice_get}
-use Rattle.std.specs.List.{filter, flat_map, range_with_len}
-use Rattle.std.specs.Option.{option_to_list}
-use Rattle.std.proofs.lemmas.Bool.{leb-false, eq-eqb, cases_lt}
-use Rattle.std.proofs.lemmas.Bool.Decides.{nat_tests}
-use Rattle.std.proofs.lemmas.List.{append-nil, drop_all, drop_more, get_or_past}
-use Rattle.std.proofs.lemmas.List.Elements.{filter-append}
-use Rattle.std.proofs.lemmas.Option.{slice_get-get_or, slice_get_past}
-use Rattle.gh_world.specs.Vocabulary.{Answer, Op, Stmt, Program, no_goroutine, statements_of, answers_by, is_statement, work_at}
-use Rattle.gh_base.specs.declared.operation.Op.TheVariants as op
-use Rattle.gh_script.specs.declared.statement.Stmt.TheVariants as stmts
-use Rattle.gh_script.specs.Program.{Goroutine, statement_as_op}
-use Rattle.gh_lists.specs.Order.{Answered}
-use Rattle.gh_world.specs.Turns.{count_of, is_of_seat, total_of, turn_of, round_of, turns_of, answers_to, its_goroutine, is_statement_of}
-use Rattle.gh_world.specs.Runs.{acted_by}
+use Rattle.std.proofs.Common.{◌≡◌, ℕ, zero, suc, ◌+◌, ◌<◌, ◌≤◌, Bool, true, false, cond, eqb, leb, ◌&&◌, List, [], ◌∷◌, ◌++◌, map, length, drop, Option, Some, None, refl, sym, ap, subst, ◌∙◌, arith, inl, inr, slice_get}
+use Rattle.std.proofs.lemmas.Bool.{leb-false, eq-eqb}
+use Rattle.std.proofs.lemmas.List.{append-nil, drop_more}
+use Rattle.gh_world.proofs.Vocabulary.{acted_by, Answer, Answered, answers_to, cases_lt, count_of, drop_all, filter, filter-append, flat_map, get_or_past, Goroutine, is_of_seat, is_statement, is_statement_of, its_goroutine, nat_tests, no_goroutine, Op, option_to_list, Program, range_with_len, round_of, slice_get-get_or, slice_get_past, statement_as_op, statements_of, Stmt, total_of, turn_of, turns_of, work_at}
+use Rattle.gh_lines.specs.Text.{answers_by}
 use Rattle.gh_world.proofs.Turning.{statement_is, goroutine_is, has_statement, count-le}
 
 -- its statement there, and those from there on
 pieces : (f : Stmt → Op) (xs : List Stmt) (r : ℕ) → map f (option_to_list (slice_get xs r)) ++ map f (drop (r + 1) xs) ≡ map f (drop r xs)
 pieces f xs r = elim (cases_lt r (length xs)) [
-  | inl lt ↦ ap (λ (s : Option Stmt). map f (option_to_list s) ++ map f (drop (r + 1) xs)) (slice_get-get_or xs r stmts.Gc lt) ∙ sym (ap (map f) (drop_more xs r stmts.Gc lt))
+  | inl lt ↦ ap (λ (s : Option Stmt). map f (option_to_list s) ++ map f (drop (r + 1) xs)) (slice_get-get_or xs r Stmt.Gc lt) ∙ sym (ap (map f) (drop_more xs r Stmt.Gc lt))
   | inr le ↦ ap (λ (s : Option Stmt). map f (option_to_list s) ++ map f (drop (r + 1) xs)) (slice_get_past xs r le) ∙ ap (map f) (drop_all (r + 1) xs (omega arith) ∙ sym (drop_all r xs le))
 ]
 
@@ -60,8 +49,8 @@ module _ (p : Program) (g : ℕ) where
     -- where it is of that processor
     module _ (its : is_of_seat p a g ≡ true) where
       turn_mine : (r : ℕ) → mine (turn_of p a r g) ≡ piece (slice_get (statements_of p g) r)
-      turn_mine r = ap (λ (b : Bool). mine (cond (b && leb r (count_of p g)) (op.Poll ∷ work_at g (slice_get (statements_of p g) r) ∷ []) [])) its ∙ go (leb r (count_of p g)) (slice_get (statements_of p g) r) refl refl where
-        go : (b : Bool) (s : Option Stmt) → leb r (count_of p g) ≡ b → slice_get (statements_of p g) r ≡ s → mine (cond b (op.Poll ∷ work_at g s ∷ []) []) ≡ piece s
+      turn_mine r = ap (λ (b : Bool). mine (cond (b && leb r (count_of p g)) (Op.Poll ∷ work_at g (slice_get (statements_of p g) r) ∷ []) [])) its ∙ go (leb r (count_of p g)) (slice_get (statements_of p g) r) refl refl where
+        go : (b : Bool) (s : Option Stmt) → leb r (count_of p g) ≡ b → slice_get (statements_of p g) r ≡ s → mine (cond b (Op.Poll ∷ work_at g s ∷ []) []) ≡ piece s
         go false None e t = refl
         go false (Some s) e t = absurd (let past = leb-false r (count_of p g) e in let lt = has_statement p (statements_of p g) r s t in omega arith)
         go true None e t = refl
@@ -95,7 +84,7 @@ module _ (p : Program) (g : ℕ) where
       pub turns_mine : mine (turns_of p a) ≡ map (statement_as_op g) (statements_of p g)
       unfolding turns_of
       turns_mine =
-          filter-append (is_statement_of g) (flat_map (round_of p a) (range_with_len 0 (total_of p + 1))) (op.Leave ∷ [])
+          filter-append (is_statement_of g) (flat_map (round_of p a) (range_with_len 0 (total_of p + 1))) (Op.Leave ∷ [])
           ∙ append-nil (mine (flat_map (round_of p a) (range_with_len 0 (total_of p + 1))))
           ∙ rounds_mine (total_of p + 1) 0 (omega (arith, few_statements))
 
@@ -115,7 +104,7 @@ module _ (p : Program) (g : ℕ) where
       pub turns_away : mine (turns_of p a) ≡ []
       unfolding turns_of
       turns_away =
-          filter-append (is_statement_of g) (flat_map (round_of p a) (range_with_len 0 (total_of p + 1))) (op.Leave ∷ [])
+          filter-append (is_statement_of g) (flat_map (round_of p a) (range_with_len 0 (total_of p + 1))) (Op.Leave ∷ [])
           ∙ append-nil (mine (flat_map (round_of p a) (range_with_len 0 (total_of p + 1))))
           ∙ rounds_away (total_of p + 1) 0
 

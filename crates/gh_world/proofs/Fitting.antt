@@ -1,21 +1,11 @@
 -- What a world keeps, whichever list it is the state of: once an operation is begun, after a step, and as it opens.
-use Rattle.std.proofs.Common.{◌≡◌, ℕ, ◌+◌, ◌^◌, ◌<◌, ◌≤◌, Bool, true, false, cond, List, length, replicate, get_or, slice_index, length-set, refl, sym, ◌∙◌, ap, subst, Option, Some, arith}
-use Rattle.std.specs.Prelude.{sum_by}
-use Rattle.std.proofs.lemmas.List.Sums.{sum_by-set}
-use Rattle.gh_mutator.specs.PollRoom.{PollsMakeRoom}
-use Rattle.gh_mutator.specs.Sound.{has_room, SoundMutating, SoundOp}
-use Rattle.gh_world.specs.Turns.{is_poll_due, is_run_due, Stands, total_by}
-use Rattle.gh_base.specs.declared.cell.Req.{Req}
-use Rattle.gh_coord.specs.Sound.{SoundCoordinating}
-use Rattle.gh_coord.specs.Stays.{cycle_room_stays}
+use Rattle.std.proofs.Common.{◌≡◌, ℕ, ◌+◌, ◌^◌, ◌<◌, ◌≤◌, Bool, true, false, cond, List, length, replicate, get_or, slice_index, length-set, refl, sym, ◌∙◌, ap, subst, Option, Some, arith, sum_by, is_some, slice_get}
+use Rattle.gh_world.proofs.Vocabulary.{acts, Answer, answered_by, AreOpening, AreTurns, begins, begins_at, begun_as, bit, cell_of, changed, counts_after, cycle_room_stays, done_or, Event, Follows, get_or-map-range_with_len, get_or_from_slice_get, gives_at, GoesOnUntilDone, has_left_at, has_names, has_room, InRange, is_busy_at, is_point, is_poll_due, is_run_due, is_statement, is_unacted, IsOpening, IsStepOfWorker, its_goroutine, last_after, later, Layout, LaysOut, leave_is_begun, length-map-range_with_len, most_cycles, Mutating, Next, Op, op_at, op_at_turn, op_due, opening_processor, opening_progress, Polled, PollsMakeRoom, Processor, Program, Progress, progress_after, read_after_set, read_replicate, Req, request, Runner, set, Shape, slice_get_within, SoundCoordinating, SoundMutating, SoundOp, SoundOthers, SoundRunners, SoundState, SoundTurns, SoundWords, Stands, State, stated_after, stated_by, statement_answer, statements_among, sum_by-set, takes, target, to_come, total_by, total_of, turns_of, WellFormed, workers_at}
 use Rattle.gh_coord.specs.Listing as coord
 use Rattle.gh_worker.specs.Listing as worker
 use Rattle.gh_worker.specs.Routine.{WorkersAreRoutines}
 use Rattle.gh_worker.specs.Sound.{SoundWorking}
-use Rattle.gh_world.specs.declared.runner.Runner.{Runner}
-use Rattle.gh_world.specs.World.{answered_by, AreOpening, AreTurns, Begins, SoundState, SoundOthers, SoundRunners, SoundTurns, SoundWords, IsOpening, LaysOut, op_at_turn, counts_after, last_after, begun_as, done_or, IsStepOfWorker, Polled, State, stated_after, stated_by, workers_at}
-use Rattle.gh_world.specs.declared.event.Event.TheVariants as event
-use Rattle.gh_world.proofs.Vocabulary.{acts, Answer, begins_at, begins, bit, cell_of, changed, Event, Follows, get_or-map-range_with_len, get_or_from_slice_get, gives_at, GoesOnUntilDone, its_goroutine, has_left_at, has_names, InRange, is_busy_at, leave_is_begun, is_point, is_some, is_statement, is_unacted, later, Layout, length-map-range_with_len, most_cycles, Mutating, Next, Op, op_at, op_due, opening_processor, opening_progress, Processor, Program, Progress, progress_after, read_after_set, read_replicate, request, set, Shape, slice_get, slice_get_within, statement_answer, statements_among, takes, target, to_come, total_of, turns_of, WellFormed}
+use Rattle.gh_world.specs.World.{Begins}
 use Rattle.gh_world.proofs.StepFacts.{step_facts, begin_facts, StepFacts, BeginFacts, begins_busy}
 use Rattle.gh_world.proofs.Turning.{opens_at, total_by-le, totals-le, turns_say}
 use Rattle.gh_world.proofs.Runners.{each_set, sum_at, sum_each}
@@ -266,11 +256,11 @@ others_open are p l seat sound = record {
 
 -- a step of a worker, from what its own step did
 pub work_is : (old : State) (i : ℕ) (x : worker.Working) (list : List ℕ) (m : worker.Working) (out : Option (Unit {0})) (happened : Event) → slice_get old.workers i ≡ Some x → InRange old.layout (cell_of (worker.asks old.layout x)) → list ≡ changed (request old.layout (worker.asks old.layout x)) old.words →
-    m ≡ worker.goes old.layout x (get_or old.words (target (request old.layout (worker.asks old.layout x))) 0) → out ≡ worker.given m → happened ≡ done_or out event.Moved → IsStepOfWorker old (record old { words = list; workers = set old.workers i m }) i happened
+    m ≡ worker.goes old.layout x (get_or old.words (target (request old.layout (worker.asks old.layout x))) 0) → out ≡ worker.given m → happened ≡ done_or out Event.Moved → IsStepOfWorker old (record old { words = list; workers = set old.workers i m }) i happened
 work_is old i x list m out happened is within words machine out_is says = record {
   before_it = x;
   is = is;
   within = within;
   others = rw (words, machine) refl;
-  says = says ∙ ap (λ (o : Option (Unit {0})). done_or o event.Moved) (out_is ∙ ap worker.given machine);
+  says = says ∙ ap (λ (o : Option (Unit {0})). done_or o Event.Moved) (out_is ∙ ap worker.given machine);
 }

@@ -1,17 +1,7 @@
 -- What is due at a processor's turn may begin, whatever its own entries are.
-use Rattle.std.proofs.Common.{◌≡◌, ℕ, ◌+◌, ◌<◌, ◌≤◌, Bool, true, false, eqb, ◌||◌, List, [], ◌∷◌, ◌++◌, reverse, refl, sym, ◌∙◌, ap, subst, Some, arith}
-use Rattle.std.specs.Prelude.{not}
-use Rattle.gh_base.specs.declared.operation.Op.TheVariants as op
-use Rattle.gh_mutator.specs.Sound.{has_room}
-use Rattle.gh_world.specs.declared.turns.Next.TheVariants as next
-use Rattle.gh_world.specs.Due.{FitsOwnEntries}
-use Rattle.gh_lists.specs.Order.{goroutine_of}
-use Rattle.gh_lists.specs.Processors.{arena_of, has_more, is_of, may_begin}
-use Rattle.gh_world.specs.Turns.{Stands}
-use Rattle.gh_world.specs.Vocabulary.{most_objects, statements_of, work_of}
-use Rattle.gh_world.specs.Wishes.{wishes_of}
-use Rattle.gh_world.specs.World.{LaysOut, MadeAtMost}
-use Rattle.gh_world.proofs.Vocabulary.{Actor, Begins, begun_in, by, ended_in, ends, Entry, eq-eqb, Follows, has_left, has_names, is_busy_at, is_leave, is_statement, later, Layout, leave_is_begun, leaves, may_leave, MayBeOver, Next, Op, op_due, Processor, processor_kind, Program, setting_of, slice_get, state_of, statements_among, to_come, total_of, turns_of, WellFormed, ◌%◌}
+use Rattle.std.proofs.Common.{◌≡◌, ℕ, ◌+◌, ◌<◌, ◌≤◌, Bool, true, false, eqb, ◌||◌, List, [], ◌∷◌, ◌++◌, reverse, refl, sym, ◌∙◌, ap, subst, Some, arith, not, slice_get, ◌%◌}
+use Rattle.std.proofs.lemmas.Bool.{eq-eqb}
+use Rattle.gh_world.proofs.Vocabulary.{Actor, arena_of, Begins, begun_in, by, ended_in, ends, Entry, FitsOwnEntries, Follows, goroutine_of, has_left, has_more, has_names, has_room, is_busy_at, is_leave, is_of, is_statement, later, Layout, LaysOut, leave_is_begun, leaves, MadeAtMost, may_begin, may_leave, MayBeOver, most_objects, Next, Op, op_due, Processor, processor_kind, Program, setting_of, Stands, state_of, statements_among, statements_of, to_come, total_of, turns_of, WellFormed, wishes_of, work_of}
 use Rattle.gh_world.proofs.Asking.{all_then, has_wish}
 use Rattle.gh_world.proofs.Due.{both_true, due_runs, due_statement, ends_is, false_unless, few_statements, has_name_at, not_ended, not_over}
 use Rattle.gh_world.proofs.Resting.{is_processor}
@@ -40,28 +30,28 @@ module _ (p : Program) (l : Layout) (formed : WellFormed p) (lays : LaysOut p l)
   of_it t o stands due = grind arith
 
   more_of : (es : List (Entry Op)) (o : Op) (rest : List Op) → turns_of p a ≡ reverse (begun_in es) ++ o ∷ rest → has_more (wishes_of p) es o ≡ true
-  more_of es (op.New g d t) rest turns = has_wish p a g es (op.New g d t) rest turns (eq-eqb g g refl)
-  more_of es (op.Gc g) rest turns = has_wish p a g es (op.Gc g) rest turns (eq-eqb g g refl)
+  more_of es (Op.New g d t) rest turns = has_wish p a g es (Op.New g d t) rest turns (eq-eqb g g refl)
+  more_of es (Op.Gc g) rest turns = has_wish p a g es (Op.Gc g) rest turns (eq-eqb g g refl)
   more_of es _ rest turns = refl
 
   -- what is to come begins with it
   come_due : (t : Next) (o : Op) → op_due p t ≡ Some o → (rest : List Op) × (to_come p a t ≡ o ∷ rest)
-  come_due (next.Poll r g) o due = let same : op.Poll ≡ o = cc in (work_of p r g ∷ later p a r (g + 1), ap (λ (x : Op). x ∷ work_of p r g ∷ later p a r (g + 1)) same)
-  come_due (next.Run r g) o due = let same : work_of p r g ≡ o = cc in (later p a r (g + 1), ap (λ (x : Op). x ∷ later p a r (g + 1)) same)
-  come_due next.Leave o due = let same : op.Leave ≡ o = cc in ([], ap (λ (x : Op). x ∷ []) same)
-  come_due next.Over o due = absurd cc
+  come_due (Next.Poll r g) o due = let same : Op.Poll ≡ o = cc in (work_of p r g ∷ later p a r (g + 1), ap (λ (x : Op). x ∷ work_of p r g ∷ later p a r (g + 1)) same)
+  come_due (Next.Run r g) o due = let same : work_of p r g ≡ o = cc in (later p a r (g + 1), ap (λ (x : Op). x ∷ later p a r (g + 1)) same)
+  come_due Next.Leave o due = let same : Op.Leave ≡ o = cc in ([], ap (λ (x : Op). x ∷ []) same)
+  come_due Next.Over o due = absurd cc
 
   no_leave : (es : List (Entry Op)) (o : Op) → is_leave o ≡ false → may_leave (arena_of p.shapes l) a es o ≡ true
   no_leave es o e = grind arith
 
   -- it is the leave only where each goroutine has ended
   leaves_at : (es : List (Entry Op)) (t : Next) (o : Op) → op_due p t ≡ Some o → turns_of p a ≡ reverse (begun_in es) ++ to_come p a t → may_leave (arena_of p.shapes l) a es o ≡ true
-  leaves_at es (next.Poll r g) o due turns = let same : op.Poll ≡ o = cc in no_leave es o (ap is_leave (sym same))
-  leaves_at es (next.Run r g) o due turns = let same : work_of p r g ≡ o = cc in no_leave es o (ap is_leave (sym same) ∙ work_no_leave g (slice_get (statements_of p g) r))
-  leaves_at es next.Leave o due turns =
-      let same : op.Leave ≡ o = cc in
+  leaves_at es (Next.Poll r g) o due turns = let same : Op.Poll ≡ o = cc in no_leave es o (ap is_leave (sym same))
+  leaves_at es (Next.Run r g) o due turns = let same : work_of p r g ≡ o = cc in no_leave es o (ap is_leave (sym same) ∙ work_no_leave g (slice_get (statements_of p g) r))
+  leaves_at es Next.Leave o due turns =
+      let same : Op.Leave ≡ o = cc in
       subst (λ (x : Op). may_leave (arena_of p.shapes l) a es x ≡ true) same (all_then p (arena_of p.shapes l) a es (λ g. ap (λ (n : ℕ). eqb (g % n) a) lays.procs_are) l.goroutines (omega (arith, lays.goroutines_are)) turns)
-  leaves_at es next.Over o due turns = absurd cc
+  leaves_at es Next.Over o due turns = absurd cc
 
   -- so it fits in with what the processor has begun
   pub due_fits : (es : List (Entry Op)) (t : Next) (o : Op) → op_due p t ≡ Some o → Stands p a t → turns_of p a ≡ reverse (begun_in es) ++ to_come p a t → ((g : ℕ) → ended_in es g ≡ true → MayBeOver p t g) → (has_left es ≡ true → leave_is_begun t ≡ true) → FitsOwnEntries p l a es o

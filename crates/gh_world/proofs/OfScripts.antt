@@ -1,17 +1,9 @@
 -- The lists of a script are lists of all actors, with few `new` and `gc`; so all stands after each, and there is room for their cycles.
-use Rattle.std.proofs.Common.{◌≡◌, ◌≤◌, List, ap, ◌∙◌, arith}
-use Rattle.std.specs.Prelude.{sum_by}
-use Rattle.gh_base.specs.declared.limits.TheConstants.{MOST_STATEMENTS}
+use Rattle.std.proofs.Common.{◌≡◌, ◌≤◌, List, ap, ◌∙◌, arith, sum_by}
+use Rattle.gh_world.proofs.Vocabulary.{AreFew, arena_of, CyclesAreFew, Entry, given_for, Layout, LaysOut, Legal, most_cycles, MOST_STATEMENTS, Op, processor_kind, ProcessorsBeginFew, Program, setting_of, setup_of, state_of, total, WellFormed, wishes_in, wishes_of}
 use Rattle.gh_law.specs.Below.{ShapesAreGood}
 use Rattle.gh_law.specs.Actors.{AllStands, EveryListOfActorsStands}
-use Rattle.gh_world.specs.Vocabulary.{Entry, Layout, Legal, Op, Program, WellFormed}
 use Rattle.gh_lists.specs.Numbers.{opened_in}
-use Rattle.gh_lists.specs.Processors.{arena_of}
-use Rattle.gh_lists.specs.Wants.{AreFew, CyclesAreFew, ProcessorsBeginFew, total}
-use Rattle.gh_mutator.specs.Deeds.{processor_kind}
-use Rattle.gh_world.specs.Vocabulary.{state_of}
-use Rattle.gh_world.specs.Wishes.{most_cycles, wishes_in, wishes_of}
-use Rattle.gh_world.specs.World.{LaysOut, setting_of, given_for, setup_of}
 use Rattle.gh_world.proofs.Wishing.{few_wishes, total_wishes}
 
 pub shapes_good : (p : Program) → WellFormed p → ShapesAreGood p.shapes

@@ -1,19 +1,7 @@
 -- Over a plain list of words a script has one run in each order of steps, and one where the actors take turns.
 use Rattle.std.proofs.Common.{◌≡◌, ℕ, ◌≤◌, Bool, true, false, cond, eqb, List, [], ◌∷◌, ◌++◌, length, reverse, Option, Some, None, refl, sym, ap, subst, ◌∙◌, append_assoc, arith, inl, inr}
-use Rattle.std.specs.Option.{option_to_list}
-use Rattle.std.proofs.lemmas.Bool.{cases_lt}
-use Rattle.std.proofs.lemmas.Grind.{reverse_onto}
-use Rattle.std.proofs.lemmas.List.{append_cancel_left, append-nil}
-use Rattle.gh_base.specs.declared.operation.Op.{Op}
-use Rattle.gh_base.specs.declared.layout.Layout.{Layout}
-use Rattle.gh_base.specs.declared.machine.Entry.{Entry}
-use Rattle.gh_base.specs.Lists.{Begins, by, MayFollow}
-use Rattle.gh_script.specs.Program.{Program}
-use Rattle.gh_lists.specs.Order.{begun_in}
-use Rattle.gh_world.specs.Schedule.{ended_after, first_going, in_order_from, IsInTurn, next_in}
-use Rattle.gh_world.specs.Turns.{turns_of}
-use Rattle.gh_world.specs.World.{actor_after, setting_of}
-use Rattle.gh_world.specs.Runs.{actors_in, IsRun, IsRunSoFar, EveryOrderHasOneRun, EveryRunIsOne, NoneIsLonger}
+use Rattle.std.proofs.lemmas.List.{append-nil}
+use Rattle.gh_world.proofs.Vocabulary.{actor_after, actors_in, append_cancel_left, Begins, begun_in, by, cases_lt, ended_after, Entry, EveryOrderHasOneRun, EveryRunIsOne, first_going, in_order_from, IsInTurn, IsRun, IsRunSoFar, Layout, MayFollow, next_in, NoneIsLonger, Op, option_to_list, Program, reverse_onto, setting_of, turns_of}
 use Rattle.gh_world.proofs.Resting.{other_none}
 
 pub one_more : {A : Type 0} (x : A) (xs rest : List A) → reverse (x ∷ xs) ++ rest ≡ reverse xs ++ x ∷ rest

@@ -1,17 +1,10 @@
 -- A step of the code, from what its parts did.
-use Rattle.std.proofs.Common.{◌≡◌, ℕ, ◌+◌, ◌-◌, ◌<◌, ◌≤◌, Bool, true, false, not, List, ◌∷◌, ◌++◌, length, length-set, refl, sym, ◌∙◌, ap, subst, Option, Some, arith}
+use Rattle.std.proofs.Common.{◌≡◌, ℕ, ◌+◌, ◌-◌, ◌<◌, ◌≤◌, Bool, true, false, not, List, ◌∷◌, ◌++◌, length, length-set, refl, sym, ◌∙◌, ap, subst, Option, Some, arith, slice_get}
+use Rattle.gh_world.proofs.Vocabulary.{acts, AllDone, answered_by, answered_in, answered_of, Appends, asks, begun_as, bit, by, cell_of, changed, Entry, Event, event_at, found_by, goes, has_ended, has_left_at, InRange, is_busy_at, is_done, is_last, is_point, IsAfter, IsStepOfCoordinator, IsStepOfProcessor, IsStepOfWorker, Layout, Mutating, Next, next_point, now_of, Op, PollsMakeRoom, processor_kind, Program, progress_after, Ran, request, Runner, set, Shape, slice_get_past, slice_get_within, SoundMutating, SoundRunners, SoundState, SoundTurns, SoundWords, started, State, state_of, statement_answer, StepsAreShown, takes, total_of, worker_or}
 use Rattle.gh_coord.specs.Listing as coord
-use Rattle.gh_mutator.specs.PollRoom.{PollsMakeRoom}
 use Rattle.gh_worker.specs.Listing as worker
-use Rattle.gh_mutator.specs.Mutating.{asks, goes}
-use Rattle.gh_mutator.specs.Sound.{SoundMutating}
-use Rattle.gh_world.specs.declared.runner.Runner.{Runner}
-use Rattle.gh_world.specs.Turns.{next_point, total_of}
-use Rattle.gh_world.specs.Vocabulary.{is_last, CoordStage}
-use Rattle.gh_world.specs.After.{Appends, IsAfter}
-use Rattle.gh_world.specs.World.{AllDone, answered_by, answered_of, Begins, event_at, SoundState, SoundRunners, SoundTurns, SoundWords, Ran, State, IsStepOfCoordinator, IsStepOfProcessor, IsStepOfWorker, begun_as, found_by, is_done, now_of, worker_or}
-use Rattle.gh_world.specs.Schedule.{has_ended}
-use Rattle.gh_world.proofs.Vocabulary.{acts, answered_in, bit, by, cell_of, changed, Entry, Event, has_left_at, InRange, is_busy_at, is_point, Layout, Mutating, Next, Op, processor_kind, Program, progress_after, request, set, Shape, slice_get, slice_get_past, slice_get_within, started, state_of, statement_answer, StepsAreShown, takes}
+use Rattle.gh_coord.specs.declared.coord.CoordStage.{CoordStage}
+use Rattle.gh_world.specs.World.{Begins}
 use Rattle.gh_world.proofs.Fitting.{answered_all, busy_begun, due_room, fits_again, marks_few, marks_more, point_room, ran}
 use Rattle.gh_world.proofs.Parts.{After, in_parts, of_parts, other_here, parts_of, runner_here}
 use Rattle.gh_world.proofs.Turning.{total_by-le}

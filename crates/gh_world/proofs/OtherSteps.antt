@@ -1,16 +1,11 @@
 -- One step of a worker, or of the coordinator, in a world is one entry more of a legal list; and what a world is before its first step.
-use Rattle.std.proofs.Common.{◌≡◌, ℕ, ◌+◌, ◌<◌, ◌≤◌, true, false, eqb, ltb, List, [], ◌∷◌, ◌++◌, length, get_or, refl, sym, ◌∙◌, ap, Option, Some, None, arith}
+use Rattle.std.proofs.Common.{◌≡◌, ℕ, ◌+◌, ◌<◌, ◌≤◌, true, false, eqb, ltb, List, [], ◌∷◌, ◌++◌, length, get_or, refl, sym, ◌∙◌, ap, Option, Some, None, arith, slice_get}
 use Rattle.std.proofs.lemmas.List.{append-nil}
-use Rattle.gh_world.specs.Vocabulary.{ShowsCells, Cycle}
-use Rattle.gh_base.specs.Steps.{IsShown}
+use Rattle.std.proofs.lemmas.Bool.{eq-eqb}
+use Rattle.gh_world.proofs.Vocabulary.{acks_of, Actor, actor_after, acts, answer_in, answered_in, AreOpening, Ask, cell_of, changed, done_or, Entry, Event, event_by, event_of, get_or-map-range_with_len, get_or_from_slice_get, InRange, is_point, IsOpening, IsShown, Layout, Legal, length-map-range_with_len, most_cycles, Mutating, nat_tests, next_point, now_in, now_of, Op, opening_processor, points_in, Processor, processor_kind, Program, Progress, read_replicate, request, Runner, set, setting_of, ShowsCells, slice_get_within, state_of, statement_answer, StepsAreShown, target, told_event, with_goroutine, words_after, workers_at}
+use Rattle.gh_coord.specs.declared.cycles.Cycle.{Cycle}
 use Rattle.gh_coord.specs.Listing as coord
 use Rattle.gh_worker.specs.Listing as worker
-use Rattle.gh_lists.specs.declared.handshake.Actor.TheVariants as actor
-use Rattle.gh_world.specs.Turns.{next_point}
-use Rattle.gh_world.specs.declared.runner.Runner.{Runner}
-use Rattle.gh_world.specs.World.{AreOpening, done_or, event_by, IsOpening, now_in, now_of, points_in, told_event, workers_at}
-use Rattle.gh_world.specs.declared.event.Event.TheVariants as event
-use Rattle.gh_world.proofs.Vocabulary.{acks_of, Actor, actor_after, acts, answer_in, answered_in, Ask, cell_of, changed, Entry, eq-eqb, Event, event_of, get_or-map-range_with_len, get_or_from_slice_get, InRange, is_point, Layout, Legal, length-map-range_with_len, most_cycles, Mutating, nat_tests, Op, opening_processor, Processor, processor_kind, Program, Progress, read_replicate, request, set, setting_of, slice_get, slice_get_within, state_of, statement_answer, StepsAreShown, target, with_goroutine, words_after}
 use Rattle.gh_world.proofs.Parts.{After, IsRunnerAt, Parts}
 use Rattle.gh_world.proofs.Resting.{rests}
 use Rattle.gh_world.proofs.Runners.{each_set, runner_stays}
@@ -66,8 +61,8 @@ module _ (p : Program) (l : Layout) where
       abbrev next : worker.Working
       next = worker.goes l x (found_by w.words (worker.asks l x))
 
-      works_on : (j : ℕ) (y : worker.Working) → slice_get (set w.workers i next) j ≡ Some y → actor_after p l (work_entry ∷ es) (l.procs + j) ≡ actor.Marks y
-      works_on = each_set (λ (j : ℕ) (y : worker.Working). actor_after p l (work_entry ∷ es) (l.procs + j) ≡ actor.Marks y) w.workers i x next is
+      works_on : (j : ℕ) (y : worker.Working) → slice_get (set w.workers i next) j ≡ Some y → actor_after p l (work_entry ∷ es) (l.procs + j) ≡ Actor.Marks y
+      works_on = each_set (λ (j : ℕ) (y : worker.Working). actor_after p l (work_entry ∷ es) (l.procs + j) ≡ Actor.Marks y) w.workers i x next is
           (own_at (l.procs + i) (l.procs + i) (found_by w.words (worker.asks l x)) (worker.asks l x) es refl ∙ ap (λ (n : Actor). (setting_of p l).kind.takes n (found_by w.words (worker.asks l x))) (h.marking i x is))
           (λ j y apart e. other_at (l.procs + i) (l.procs + j) (found_by w.words (worker.asks l x)) (worker.asks l x) es (λ q. apart (omega (arith, q))) ∙ h.marking j y e)
 
@@ -96,10 +91,10 @@ module _ (p : Program) (l : Layout) where
             pointed = h.pointed ∙ same_points (l.procs + i) (found_by w.words (worker.asks l x)) (worker.asks l x) behind es h.legal;
           }
 
-      pub work_says : done_or (worker.given (worker.goes l x (found_by w.words (worker.asks l x)))) event.Moved ≡ event_of p l es work_entry
+      pub work_says : done_or (worker.given (worker.goes l x (found_by w.words (worker.asks l x)))) Event.Moved ≡ event_of p l es work_entry
       work_says = ap (λ (n : Actor). event_by l (now_in (work_entry ∷ es)) n (found_by w.words (worker.asks l x))) (sym (h.marking i x is))
 
-      pub work_tells : (happened : Event) → happened ≡ done_or (worker.given (worker.goes l x (found_by w.words (worker.asks l x)))) event.Moved → answered_in happened ≡ with_goroutine (now_in (work_entry ∷ es)).0 (answer_in p.shapes l es work_entry)
+      pub work_tells : (happened : Event) → happened ≡ done_or (worker.given (worker.goes l x (found_by w.words (worker.asks l x)))) Event.Moved → answered_in happened ≡ with_goroutine (now_in (work_entry ∷ es)).0 (answer_in p.shapes l es work_entry)
       work_tells happened says = grind (arith, no_answer, none_answered)
 
     -- ---- the coordinator
@@ -108,7 +103,7 @@ module _ (p : Program) (l : Layout) where
       abbrev pub lead_entry : Entry Op
       lead_entry = entry_by (acks_of l) (coord.asks l w.coord) (found_by w.words (coord.asks l w.coord))
 
-      marks_on : (many : length w.workers ≡ l.workers) (j : ℕ) (y : worker.Working) → slice_get w.workers j ≡ Some y → actor_after p l (lead_entry ∷ es) (l.procs + j) ≡ actor.Marks y
+      marks_on : (many : length w.workers ≡ l.workers) (j : ℕ) (y : worker.Working) → slice_get w.workers j ≡ Some y → actor_after p l (lead_entry ∷ es) (l.procs + j) ≡ Actor.Marks y
       marks_on many j y e =
           let low : j < length w.workers = slice_get_within w.workers j y e in
           other_at (acks_of l) (l.procs + j) (found_by w.words (coord.asks l w.coord)) (coord.asks l w.coord) es (λ q. omega (arith, low, many, q)) ∙ h.marking j y e
@@ -157,16 +152,16 @@ module _ (p : Program) (l : Layout) where
     marked = ap (λ (m : Mutating). m.marks) o.mutator;
   }
 
-  first_worker : (i : ℕ) (x : worker.Working) → slice_get (workers_at l) i ≡ Some x → actor_after p l [] (l.procs + i) ≡ actor.Marks x
+  first_worker : (i : ℕ) (x : worker.Working) → slice_get (workers_at l) i ≡ Some x → actor_after p l [] (l.procs + i) ≡ Actor.Marks x
   first_worker i x e =
       let many = all_workers l in
       let low : i < length (workers_at l) = slice_get_within (workers_at l) i x e in
       let is : worker.opening (l.procs + i) ≡ x = sym (get_or-map-range_with_len worker.opening l.procs l.workers i (l.procs + i) x (omega (arith, many, low)) refl) ∙ get_or_from_slice_get (workers_at l) i x x e in
       let above : ltb (l.procs + i) l.procs ≡ false = grind (arith, nat_tests) in
       let below : ltb (l.procs + i) (acks_of l) ≡ true = grind (arith, nat_tests, many, low) in
-      rw (above, below) (ap actor.Marks is)
+      rw (above, below) (ap Actor.Marks is)
 
-  first_lead : actor_after p l [] (acks_of l) ≡ actor.Leads (coord.opening l (acks_of l) p.settings.gogc p.settings.minheap (most_cycles p))
+  first_lead : actor_after p l [] (acks_of l) ≡ Actor.Leads (coord.opening l (acks_of l) p.settings.gogc p.settings.minheap (most_cycles p))
   first_lead =
       let above : ltb (acks_of l) l.procs ≡ false = grind (arith, nat_tests) in
       let same : ltb (acks_of l) (acks_of l) ≡ false = grind (arith, nat_tests) in

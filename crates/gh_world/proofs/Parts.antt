@@ -1,17 +1,8 @@
 -- The state of a list by the parts of a world, and that it is the same as the world's being after the list.
-use Rattle.std.proofs.Common.{◌≡◌, ℕ, ◌+◌, ◌-◌, ◌<◌, ◌≤◌, true, List, [], ◌++◌, length, reverse, refl, sym, ◌∙◌, ap, Option, Some, None, arith, inl, inr}
-use Rattle.std.specs.Prelude.{slice_get, slice_index, sum_by}
-use Rattle.std.specs.Option.{option_to_list}
-use Rattle.std.proofs.lemmas.Option.{slice_get_cases, slice_get_past, slice_get_within}
+use Rattle.std.proofs.Common.{◌≡◌, ℕ, ◌+◌, ◌-◌, ◌<◌, ◌≤◌, true, List, [], ◌++◌, length, reverse, refl, sym, ◌∙◌, ap, Option, Some, None, arith, inl, inr, slice_get, slice_index, sum_by}
+use Rattle.gh_world.proofs.Vocabulary.{acks_of, Actor, actor_after, actor_of, actors_of, begun_in, by, ended_in, Entry, has_left, IsAfter, KeepsPlace, Layout, leave_is_begun, Legal, marks_at, marks_by, marks_of, MayBeOver, MOST_GOROUTINES, now_by, Op, option_to_list, points_in, Processor, processor_kind, Program, Runner, runner_or, setting_of, ShowsCells, slice_get_cases, slice_get_past, slice_get_within, State, state_of, statement_count, to_come, turns_of, words_after, worker_or}
 use Rattle.gh_coord.specs.Listing as coord
 use Rattle.gh_worker.specs.Listing as worker
-use Rattle.gh_lists.specs.declared.handshake.Actor.TheVariants as actor
-use Rattle.gh_world.specs.declared.runner.Runner.{Runner}
-use Rattle.gh_world.specs.After.{IsAfter, KeepsPlace}
-use Rattle.gh_lists.specs.Order.{begun_in, ended_in, has_left}
-use Rattle.gh_world.specs.Turns.{leave_is_begun, MayBeOver, statement_count, to_come, turns_of}
-use Rattle.gh_world.specs.Vocabulary.{acks_of, Entry, Layout, Legal, MOST_GOROUTINES, Op, Processor, processor_kind, Program, ShowsCells, state_of, words_after, by}
-use Rattle.gh_world.specs.World.{actor_after, actor_of, actors_of, marks_at, marks_by, marks_of, now_by, points_in, runner_or, setting_of, State, worker_or}
 use Rattle.gh_world.proofs.Resting.{is_processor}
 
 -- This is the processor at seat a after the list, how far it is among its turns, and the number of statements that it has answered.
@@ -40,13 +31,13 @@ pub record After (p : Program) (l : Layout) (w : Parts) (es : List (Entry Op)) :
   pub legal : Legal (setting_of p l) es
   pub words : ShowsCells l w.words (words_after (setting_of p l).opening es)
   pub running : (a : ℕ) (x : Runner) → slice_get w.runners a ≡ Some x → IsRunnerAt p l a x es
-  pub marking : (i : ℕ) (x : worker.Working) → slice_get w.workers i ≡ Some x → actor_after p l es (l.procs + i) ≡ actor.Marks x
+  pub marking : (i : ℕ) (x : worker.Working) → slice_get w.workers i ≡ Some x → actor_after p l es (l.procs + i) ≡ Actor.Marks x
   pub many : length w.runners ≡ l.procs
-  pub coordinator : actor_after p l es (acks_of l) ≡ actor.Leads w.coord
+  pub coordinator : actor_after p l es (acks_of l) ≡ Actor.Leads w.coord
   pub pointed : w.points ≡ points_in p.shapes l es
 
 -- the actors of a world by their numbers
-pub runner_here : (w : State) (a : ℕ) (x : Runner) → slice_get w.runners a ≡ Some x → actor_of w a ≡ actor.Runs x.mutator.processor
+pub runner_here : (w : State) (a : ℕ) (x : Runner) → slice_get w.runners a ≡ Some x → actor_of w a ≡ Actor.Runs x.mutator.processor
 runner_here w a x is = ap (runner_or (worker_or w.coord (slice_get w.workers (a - length w.runners)))) is
 
 pub other_here : (w : State) (a i : ℕ) → a ≡ length w.runners + i → actor_of w a ≡ worker_or w.coord (slice_get w.workers i)
@@ -81,7 +72,7 @@ module _ (w : State) (es : List (Entry Op)) where
   marks_here a o is = ap (λ (q : Option Runner). marks_by (sum_by (λ (x : Runner). x.mutator.marks) (option_to_list q)) (runner_or (worker_or w.coord (slice_get w.workers (a - length w.runners))) q)) is
 
   module _ (after : IsAfter w es) where
-    same_processor : (m n : Processor) → actor.Runs m ≡ actor.Runs n → m ≡ n
+    same_processor : (m n : Processor) → Actor.Runs m ≡ Actor.Runs n → m ≡ n
     same_processor m n is = cc
 
     running : (a : ℕ) (x : Runner) → slice_get w.runners a ≡ Some x → IsRunnerAt p l a x es
@@ -134,7 +125,7 @@ module _ (w : State) (es : List (Entry Op)) where
     at_runner a lt (Some x) is =
         let low = slice_get_within w.runners a x is in
         let procs = h.many in
-        runner_here w a x is ∙ ap actor.Runs (h.running a x is).processor ∙ sym (is_processor p l a (omega (arith, low, procs)) es)
+        runner_here w a x is ∙ ap Actor.Runs (h.running a x is).processor ∙ sym (is_processor p l a (omega (arith, low, procs)) es)
     at_runner a lt None is =
         let high : length w.runners ≤ a = none_within w.runners a is in
         let procs = h.many in

@@ -1,13 +1,10 @@
 -- A processor keeps its place among its turns, whoever makes its steps.
 use Rattle.std.proofs.Common.{◌≡◌, ℕ, ◌<◌, Bool, true, cond, eqb, ◌||◌, List, [], ◌∷◌, ◌++◌, reverse, refl, sym, ◌∙◌, ap, Option, Some, None, arith}
-use Rattle.gh_world.specs.After.{KeepsPlace}
-use Rattle.gh_world.specs.Due.{EachKeepsItsPlace, WhatIsDueFits}
-use Rattle.gh_world.specs.Turns.{statement_count, statement_now}
-use Rattle.gh_world.specs.World.{AreTurns}
+use Rattle.std.proofs.lemmas.Bool.{eq-eqb}
+use Rattle.gh_world.proofs.Vocabulary.{AreTurns, begun_in, by, EachKeepsItsPlace, ended_in, ends, Entry, Follows, has_left, is_statement, its_goroutine, KeepsPlace, leaves, Next, Op, op_due, opening_progress, option_to_list, Program, Progress, progress_after, read_replicate, statement_count, statement_now, to_come, turns_of, WellFormed, WhatIsDueFits}
 use Rattle.gh_world.proofs.Due.{due_goroutine}
 use Rattle.gh_world.proofs.MayBegin.{due_fits, ended_then, left_then}
 use Rattle.gh_world.proofs.OneRun.{one_more}
-use Rattle.gh_world.proofs.Vocabulary.{begun_in, by, ended_in, ends, Entry, eq-eqb, Follows, has_left, is_statement, its_goroutine, leaves, Next, Op, op_due, opening_progress, option_to_list, Program, Progress, progress_after, read_replicate, to_come, turns_of, WellFormed}
 use Rattle.gh_world.proofs.WorldFacts.{counted_after, now_after}
 
 pub what_is_due_fits : WhatIsDueFits

@@ -1,10 +1,7 @@
 -- In each legal list of a script the processors are at the first seats; who is at another begins nothing.
 use Rattle.std.proofs.Common.{◌≡◌, ℕ, ◌<◌, ◌≤◌, true, ap, ◌∙◌, List, Option, None}
-use Rattle.gh_base.specs.Lists.{Begins, Kind, Legal, started, state_of}
-use Rattle.gh_lists.specs.declared.handshake.Actor.TheVariants as actor
+use Rattle.gh_world.proofs.Vocabulary.{Actor, actor_after, Begins, Entry, Kind, Layout, Legal, Op, opening_processor, Processor, processor_kind, Program, setting_of, setup_of, started, state_of}
 use Rattle.gh_lists.specs.Handshake.{actors}
-use Rattle.gh_world.specs.Vocabulary.{Entry, Layout, Op, opening_processor, Processor, processor_kind, Program, Actor}
-use Rattle.gh_world.specs.World.{actor_after, setting_of, setup_of}
 use Rattle.gh_lists.specs.Resting as resting
 use Rattle.gh_lists.specs.Seats.{run_started}
 
@@ -15,10 +12,10 @@ module _ (p : Program) (l : Layout) where
   abbrev all : Kind Actor Op
   all = actors (setup_of p l)
 
-  pub is_processor : (a : ℕ) → a < l.procs → (es : List (Entry Op)) → actor_after p l es a ≡ actor.Runs (state_of one a es)
+  pub is_processor : (a : ℕ) → a < l.procs → (es : List (Entry Op)) → actor_after p l es a ≡ Actor.Runs (state_of one a es)
   is_processor a lt es = resting.runs_are (setup_of p l) es a lt
 
-  pub begun_is : (a : ℕ) → a < l.procs → (es : List (Entry Op)) (o : Option Op) → started all o (actor_after p l es a) ≡ actor.Runs (started one o (state_of one a es))
+  pub begun_is : (a : ℕ) → a < l.procs → (es : List (Entry Op)) (o : Option Op) → started all o (actor_after p l es a) ≡ Actor.Runs (started one o (state_of one a es))
   begun_is a lt es o = ap (λ (m : Actor). started all o m) (is_processor a lt es) ∙ run_started (setup_of p l) o (state_of one a es)
 
   pub other_none : (a : ℕ) (es : List (Entry Op)) (o : Option Op) → l.procs ≤ a → Begins (setting_of p l) a es o → all.busy (started all o (actor_after p l es a)) ≡ true → o ≡ None

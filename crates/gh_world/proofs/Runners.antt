@@ -1,12 +1,10 @@
 -- The processors of a world: what a list with one element changed keeps, what a step of another actor leaves of them, and sums over them.
-use Rattle.std.proofs.Common.{◌≡◌, ℕ, zero, suc, ◌+◌, ◌<◌, ◌≤◌, Bool, true, false, eqb, List, [], ◌∷◌, ◌++◌, length, length-set, get_or, refl, sym, ◌∙◌, ap, subst, Some, arith}
-use Rattle.std.specs.Prelude.{sum_by}
-use Rattle.std.specs.List.{range_with_len}
-use Rattle.std.proofs.lemmas.List.Sums.{sum_by-cons}
-use Rattle.gh_world.specs.declared.runner.Runner.{Runner}
+use Rattle.std.proofs.Common.{◌≡◌, ℕ, zero, suc, ◌+◌, ◌<◌, ◌≤◌, Bool, true, false, eqb, List, [], ◌∷◌, ◌++◌, length, length-set, get_or, refl, sym, ◌∙◌, ap, subst, Some, arith, sum_by, slice_get}
+use Rattle.std.proofs.lemmas.Bool.{eqb-true}
+use Rattle.std.proofs.lemmas.List.{get_or-set_other, get_or-set_same}
+use Rattle.gh_world.proofs.Vocabulary.{Entry, eqb-false, get_or_from_slice_get, Layout, Op, Program, range_with_len, Runner, set, slice_get-get_or, slice_get_within, sum_by-cons}
 use Rattle.gh_world.proofs.Due.{false_unless}
 use Rattle.gh_world.proofs.Parts.{IsRunnerAt}
-use Rattle.gh_world.proofs.Vocabulary.{Entry, eqb-false, eqb-true, get_or-set_other, get_or-set_same, get_or_from_slice_get, Layout, Op, Program, set, slice_get, slice_get-get_or, slice_get_within}
 
 -- what holds of the element that is set, and of each other one, holds of each
 pub each_set : {A : Type 0} (Q : ℕ → A → Type 0) (xs : List A) (i : ℕ) (x y : A) → slice_get xs i ≡ Some x → Q i y → ((j : ℕ) (z : A) → (i ≡ j → ⊥) → slice_get xs j ≡ Some z → Q j z) → (j : ℕ) (z : A) → slice_get (set xs i y) j ≡ Some z → Q j z

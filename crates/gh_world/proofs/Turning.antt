@@ -1,18 +1,7 @@
 -- The turns of a processor: what is still to come at each of them.
-use Rattle.std.proofs.Common.{◌≡◌, ℕ, zero, suc, ◌+◌, ◌-◌, ◌<◌, ◌≤◌, ◌&&◌, Bool, true, false, cond, if◌then◌else◌, eqb, ltb, leb, List, [], ◌∷◌, ◌++◌, length, get_or, drop, min, Option, Some, None, refl, sym, ap, subst, ◌∙◌, append_assoc, arith, inl, inr}
-use Rattle.std.specs.Prelude.{sum_by}
-use Rattle.std.specs.List.{flat_map, range_with_len}
-use Rattle.std.proofs.lemmas.Bool.{leb-true, leb-false, cases_lt}
-use Rattle.std.proofs.lemmas.List.{at_drop_more}
-use Rattle.std.proofs.lemmas.List.Sums.{get_or-le-sum_by, sum_by-cons, sum_by-le-sum_by}
-use Rattle.gh_base.specs.declared.operation.Op.TheVariants as op
-use Rattle.gh_script.specs.declared.statement.Stmt.{Stmt}
-use Rattle.gh_script.specs.declared.statement.Stmt.TheVariants as stmts
-use Rattle.gh_script.specs.Program.{no_goroutine, statements_of, statements_in, statement_as_op}
-use Rattle.gh_world.specs.declared.turns.Next.TheVariants as next
-use Rattle.gh_world.specs.Turns.{count_of, has_turn, HasTurn, is_of_seat, IsPast, round_of, Stands, total_by, turn_of}
-use Rattle.gh_interp.specs.Working.{work_at, work_of}
-use Rattle.gh_world.proofs.Vocabulary.{bit, Follows, eqb-true, its_goroutine, is_leave, leave_is_begun, is_statement, later, MayBeOver, nat_tests, Next, Op, op_due, Program, slice_get, slice_get-get_or, slice_get_past, statements_among, to_come, total_of, turns_of, ◌%◌}
+use Rattle.std.proofs.Common.{◌≡◌, ℕ, zero, suc, ◌+◌, ◌-◌, ◌<◌, ◌≤◌, ◌&&◌, Bool, true, false, cond, if◌then◌else◌, eqb, ltb, leb, List, [], ◌∷◌, ◌++◌, length, get_or, drop, min, Option, Some, None, refl, sym, ap, subst, ◌∙◌, append_assoc, arith, inl, inr, sum_by, slice_get, ◌%◌}
+use Rattle.std.proofs.lemmas.Bool.{leb-true, leb-false, eqb-true}
+use Rattle.gh_world.proofs.Vocabulary.{at_drop_more, bit, cases_lt, count_of, flat_map, Follows, get_or-le-sum_by, has_turn, HasTurn, is_leave, is_of_seat, is_statement, IsPast, its_goroutine, later, leave_is_begun, MayBeOver, nat_tests, Next, no_goroutine, Op, op_due, Program, range_with_len, round_of, slice_get-get_or, slice_get_past, Stands, statement_as_op, statements_among, statements_in, statements_of, Stmt, sum_by-cons, sum_by-le-sum_by, to_come, total_by, total_of, turn_of, turns_of, work_at, work_of}
 
 -- ---- statements
 
@@ -22,7 +11,7 @@ statement_is g s = grind arith
 pub goroutine_is : (g : ℕ) (s : Stmt) → its_goroutine (statement_as_op g s) ≡ g
 goroutine_is g s = grind arith
 
-no_end : (g h : ℕ) (s : Stmt) → statement_as_op g s ≡ op.End h → ⊥
+no_end : (g h : ℕ) (s : Stmt) → statement_as_op g s ≡ Op.End h → ⊥
 no_end g h s e = grind arith
 
 pub work_no_leave : (g : ℕ) (s : Option Stmt) → is_leave (work_at g s) ≡ false
@@ -54,10 +43,10 @@ module _ (p : Program) (a r : ℕ) where
   pub passed : (g : ℕ) → g < length p.goroutines → has_turn p a r g ≡ false → turns_from g ≡ turns_from (g + 1)
   passed g h none = grind arith
 
-  pub has_one : (g : ℕ) → g < length p.goroutines → has_turn p a r g ≡ true → turns_from g ≡ op.Poll ∷ work_of p r g ∷ turns_from (g + 1)
+  pub has_one : (g : ℕ) → g < length p.goroutines → has_turn p a r g ≡ true → turns_from g ≡ Op.Poll ∷ work_of p r g ∷ turns_from (g + 1)
   has_one g h one = one_more g h ∙ rw one refl
 
-  past_here : (n g : ℕ) (b : Bool) → has_turn p a r g ≡ b → cond b (op.Poll ∷ work_of p r g ∷ []) [] ++ flat_map (turn_of p a r) (range_with_len (g + 1) n) ≡ [] → (h : ℕ) → g ≤ h → h < length p.goroutines → is_of_seat p a h ≡ true
+  past_here : (n g : ℕ) (b : Bool) → has_turn p a r g ≡ b → cond b (Op.Poll ∷ work_of p r g ∷ []) [] ++ flat_map (turn_of p a r) (range_with_len (g + 1) n) ≡ [] → (h : ℕ) → g ≤ h → h < length p.goroutines → is_of_seat p a h ≡ true
       → (flat_map (turn_of p a r) (range_with_len (g + 1) n) ≡ [] → g + 1 ≤ h → count_of p h < r) → count_of p h < r
   past_here n g b t q h le lt its ih = grind arith
 
@@ -86,21 +75,21 @@ module _ (p : Program) (a : ℕ) where
       rw here (no_rounds n (r + 1) (λ h lt its. let q = past h lt its in omega arith))
 
   -- the first turn in the round
-  pub later_here : (r g h : ℕ) → turns_from p a r g ≡ op.Poll ∷ work_of p r h ∷ turns_from p a r (h + 1) → to_come p a (next.Poll r h) ≡ later p a r g
-  later_here r g h e = sym (ap (λ (xs : List Op). xs ++ (flat_map (round_of p a) (range_with_len (r + 1) (total_of p - r)) ++ op.Leave ∷ [])) e)
+  pub later_here : (r g h : ℕ) → turns_from p a r g ≡ Op.Poll ∷ work_of p r h ∷ turns_from p a r (h + 1) → to_come p a (Next.Poll r h) ≡ later p a r g
+  later_here r g h e = sym (ap (λ (xs : List Op). xs ++ (flat_map (round_of p a) (range_with_len (r + 1) (total_of p - r)) ++ Op.Leave ∷ [])) e)
 
   -- none in the round: the next one
   later_next : (r g : ℕ) → r < total_of p → turns_from p a r g ≡ [] → later p a r g ≡ later p a (r + 1) 0
   later_next r g lt e =
       let more : total_of p - r ≡ suc (total_of p - (r + 1)) = omega arith in
       let whole : length p.goroutines - 0 ≡ length p.goroutines = omega arith in
-      ap (λ (xs : List Op). xs ++ (flat_map (round_of p a) (range_with_len (r + 1) (total_of p - r)) ++ op.Leave ∷ [])) e
-      ∙ rw (more, whole) (append_assoc (round_of p a (r + 1)) (flat_map (round_of p a) (range_with_len ((r + 1) + 1) (total_of p - (r + 1)))) (op.Leave ∷ []))
+      ap (λ (xs : List Op). xs ++ (flat_map (round_of p a) (range_with_len (r + 1) (total_of p - r)) ++ Op.Leave ∷ [])) e
+      ∙ rw (more, whole) (append_assoc (round_of p a (r + 1)) (flat_map (round_of p a) (range_with_len ((r + 1) + 1) (total_of p - (r + 1)))) (Op.Leave ∷ []))
 
-  pub later_after : (r g h : ℕ) → r < total_of p → turns_from p a r g ≡ [] → turns_from p a (r + 1) 0 ≡ op.Poll ∷ work_of p (r + 1) h ∷ turns_from p a (r + 1) (h + 1) → to_come p a (next.Poll (r + 1) h) ≡ later p a r g
+  pub later_after : (r g h : ℕ) → r < total_of p → turns_from p a r g ≡ [] → turns_from p a (r + 1) 0 ≡ Op.Poll ∷ work_of p (r + 1) h ∷ turns_from p a (r + 1) (h + 1) → to_come p a (Next.Poll (r + 1) h) ≡ later p a r g
   later_after r g h lt none e = grind (arith, later_here, later_next, none)
 
-  pub later_none : (r g : ℕ) → turns_from p a r g ≡ [] → turns_from p a (r + 1) 0 ≡ [] → to_come p a next.Leave ≡ later p a r g
+  pub later_none : (r g : ℕ) → turns_from p a r g ≡ [] → turns_from p a (r + 1) 0 ≡ [] → to_come p a Next.Leave ≡ later p a r g
   later_none r g none e = grind (arith, all_past, no_rounds, none)
 
   pub opens_at : turns_of p a ≡ later p a 0 0
@@ -109,15 +98,15 @@ module _ (p : Program) (a : ℕ) where
       let whole : length p.goroutines - 0 ≡ length p.goroutines = omega arith in
       let all : total_of p - 0 ≡ total_of p = omega arith in
       let more : total_of p + 1 ≡ suc (total_of p) = omega arith in
-      rw (whole, all, more) (append_assoc (round_of p a 0) (flat_map (round_of p a) (range_with_len (0 + 1) (total_of p))) (op.Leave ∷ []))
+      rw (whole, all, more) (append_assoc (round_of p a 0) (flat_map (round_of p a) (range_with_len (0 + 1) (total_of p))) (Op.Leave ∷ []))
 
 module _ (p : Program) where
   -- ---- a goroutine is over once its last turn is
 
-  pub over_here : (r g h k : ℕ) → g ≤ h → IsPast p r g k → MayBeOver p (next.Poll r h) k
+  pub over_here : (r g h k : ℕ) → g ≤ h → IsPast p r g k → MayBeOver p (Next.Poll r h) k
   over_here r g h k le past = grind arith
 
-  pub over_next : (r g h k : ℕ) → IsPast p r g k → MayBeOver p (next.Poll (r + 1) h) k
+  pub over_next : (r g h k : ℕ) → IsPast p r g k → MayBeOver p (Next.Poll (r + 1) h) k
   over_next r g h k past = grind arith
 
   pub over_more : (r g k : ℕ) → IsPast p r g k → IsPast p r (g + 1) k
@@ -125,14 +114,14 @@ module _ (p : Program) where
 
   no_statement : (xs : List Stmt) (n : ℕ) → slice_get xs n ≡ None → length xs ≤ n
   no_statement xs n e = elim (cases_lt n (length xs)) [
-    | inl lt ↦ absurd (let some = slice_get-get_or xs n stmts.Gc lt in cc)
+    | inl lt ↦ absurd (let some = slice_get-get_or xs n Stmt.Gc lt in cc)
     | inr le ↦ le
   ]
 
   -- a goroutine that ends in its turn is over behind it
-  pub ends_over : (r g k : ℕ) → r ≤ count_of p g → work_of p r g ≡ op.End k → IsPast p r (g + 1) k
+  pub ends_over : (r g k : ℕ) → r ≤ count_of p g → work_of p r g ≡ Op.End k → IsPast p r (g + 1) k
   ends_over r g k stands e = go (slice_get (statements_of p g) r) refl e where
-    go : (s : Option Stmt) → slice_get (statements_of p g) r ≡ s → work_at g s ≡ op.End k → count_of p k < r + bit (ltb k (g + 1))
+    go : (s : Option Stmt) → slice_get (statements_of p g) r ≡ s → work_at g s ≡ Op.End k → count_of p k < r + bit (ltb k (g + 1))
     go None t q =
         let same : g ≡ k = cc in
         let none : count_of p g ≤ r = no_statement (statements_of p g) r t in
@@ -169,7 +158,7 @@ module _ (p : Program) (a : ℕ) where
 
   one_turn : (r g : ℕ) → min (own_count p a g) r + statements_among (turn_of p a r g) ≡ min (own_count p a g) (r + 1)
   one_turn r g = go (is_of_seat p a g) (leb r (count_of p g)) (slice_get (statements_of p g) r) refl refl where
-    go : (its b : Bool) (s : Option Stmt) → leb r (count_of p g) ≡ b → slice_get (statements_of p g) r ≡ s → min (cond its (count_of p g) 0) r + statements_among (cond (its && b) (op.Poll ∷ work_at g s ∷ []) []) ≡ min (cond its (count_of p g) 0) (r + 1)
+    go : (its b : Bool) (s : Option Stmt) → leb r (count_of p g) ≡ b → slice_get (statements_of p g) r ≡ s → min (cond its (count_of p g) 0) r + statements_among (cond (its && b) (Op.Poll ∷ work_at g s ∷ []) []) ≡ min (cond its (count_of p g) 0) (r + 1)
     go false b s e t = omega arith
     go true false s e t = let past = leb-false r (count_of p g) e in omega arith
     go true true None e t = let live = leb-true r (count_of p g) e in let none = no_statement p (statements_of p g) r t in omega arith
@@ -217,7 +206,7 @@ module _ (p : Program) (a : ℕ) where
       let none = before_none 0 (length p.goroutines) in
       let all : before_round (total_of p + 1) 0 (length p.goroutines) ≡ total_by p a = all_before (length p.goroutines) 0 (omega arith) in
       let same : 0 + (total_of p + 1) ≡ total_of p + 1 = omega arith in
-      let both = among_append (flat_map (round_of p a) (range_with_len 0 (total_of p + 1))) (op.Leave ∷ []) in
+      let both = among_append (flat_map (round_of p a) (range_with_len 0 (total_of p + 1))) (Op.Leave ∷ []) in
       omega (arith, rw same at rounds, none, all, both)
 
 -- they are at most those of the script
@@ -271,10 +260,10 @@ module _ (p : Program) where
 
 module _ (p : Program) (a : ℕ) where
   -- the turn behind a statement, or behind a goroutine's end
-  pub follows_run : (before : Next) (r g : ℕ) (o : Op) (new : Next) → before ≡ next.Run r g → Stands p a before → op_due p before ≡ Some o → to_come p a new ≡ later p a r (g + 1) → Stands p a new → ((h : ℕ) → IsPast p r (g + 1) h → MayBeOver p new h) → leave_is_begun new ≡ false → Follows p a before o new
+  pub follows_run : (before : Next) (r g : ℕ) (o : Op) (new : Next) → before ≡ Next.Run r g → Stands p a before → op_due p before ≡ Some o → to_come p a new ≡ later p a r (g + 1) → Stands p a new → ((h : ℕ) → IsPast p r (g + 1) h → MayBeOver p new h) → leave_is_begun new ≡ false → Follows p a before o new
   follows_run before r g o new is stands due come stood over going =
       subst (λ (b : Next). Follows p a b o new) (sym is) (go (subst (Stands p a) is stands) (subst (λ (b : Next). op_due p b ≡ Some o) is due)) where
-        go : Stands p a (next.Run r g) → Some (work_of p r g) ≡ Some o → Follows p a (next.Run r g) o new
+        go : Stands p a (Next.Run r g) → Some (work_of p r g) ≡ Some o → Follows p a (Next.Run r g) o new
         go here e =
             let same : work_of p r g ≡ o = cc in
             record {

@@ -1,16 +1,7 @@
 -- A world's actors are those of the list that it is the state of; and where all are done the list is a whole run.
-use Rattle.std.proofs.Common.{◌≡◌, ℕ, zero, suc, ◌+◌, ◌-◌, ◌<◌, ◌≤◌, Bool, true, cond, List, [], ◌++◌, length, reverse, refl, sym, ◌∙◌, ap, Option, Some, None, arith}
-use Rattle.std.specs.Prelude.{slice_get}
-use Rattle.std.specs.List.{range_with_len}
+use Rattle.std.proofs.Common.{◌≡◌, ℕ, zero, suc, ◌+◌, ◌-◌, ◌<◌, ◌≤◌, Bool, true, cond, List, [], ◌++◌, length, reverse, refl, sym, ◌∙◌, ap, Option, Some, None, arith, slice_get}
 use Rattle.std.proofs.lemmas.List.{append-nil}
-use Rattle.gh_world.specs.Vocabulary.{by, Entry, has_left_at, is_leaving, Layout, Op, Program, Task}
-use Rattle.gh_world.specs.declared.runner.Runner.{Runner}
-use Rattle.gh_lists.specs.Order.{begun_in}
-use Rattle.gh_world.specs.Runs.{IsRun}
-use Rattle.gh_world.specs.Schedule.{ended_after, first_going, has_ended, turn_from}
-use Rattle.gh_world.specs.Turns.{turns_of}
-use Rattle.gh_world.specs.After.{IsAfter}
-use Rattle.gh_world.specs.World.{actors_of, AllDone, is_done, setting_of, State, turn_in}
+use Rattle.gh_world.proofs.Vocabulary.{actors_of, AllDone, begun_in, by, ended_after, Entry, first_going, has_ended, has_left_at, is_done, is_leaving, IsAfter, IsRun, Layout, Op, Program, range_with_len, Runner, setting_of, State, Task, turn_from, turn_in, turns_of}
 use Rattle.gh_world.proofs.Due.{none_to_come}
 use Rattle.gh_world.proofs.OneStep.{Kept}
 use Rattle.gh_world.proofs.Parts.{none_within, runner_here}

@@ -1,16 +1,7 @@
 -- How many cycles a script may ask for, statement by statement, goroutine by goroutine and in all.
-use Rattle.std.proofs.Common.{◌≡◌, ℕ, zero, suc, ◌+◌, ◌-◌, ◌≤◌, Bool, true, false, cond, eqb, get_or, List, [], ◌∷◌, ◌++◌, length, take, Some, refl, ap, ◌∙◌, arith}
-use Rattle.std.specs.Prelude.{slice_get, sum_by}
-use Rattle.std.specs.List.{filter}
-use Rattle.std.proofs.lemmas.Bool.Decides.{nat_tests}
-use Rattle.std.proofs.lemmas.List.{length-append, take_more}
-use Rattle.std.proofs.lemmas.List.Elements.{filter-append}
-use Rattle.std.proofs.lemmas.List.Sums.{sum_by-cons}
-use Rattle.std.proofs.lemmas.Option.{get_or_from_slice_get, slice_get_within}
-use Rattle.gh_script.specs.Program.{Goroutine, Program, statement_at, statements_in, statements_of}
-use Rattle.gh_world.specs.Vocabulary.{no_goroutine, Stmt}
-use Rattle.gh_lists.specs.Wants.{total}
-use Rattle.gh_world.specs.Wishes.{may_ask, wishes_among, wishes_in}
+use Rattle.std.proofs.Common.{◌≡◌, ℕ, zero, suc, ◌+◌, ◌-◌, ◌≤◌, Bool, true, false, cond, eqb, get_or, List, [], ◌∷◌, ◌++◌, length, take, Some, refl, ap, ◌∙◌, arith, slice_get, sum_by}
+use Rattle.std.proofs.lemmas.List.{length-append}
+use Rattle.gh_world.proofs.Vocabulary.{filter, filter-append, get_or_from_slice_get, Goroutine, may_ask, nat_tests, no_goroutine, Program, slice_get_within, statement_at, statements_in, statements_of, Stmt, sum_by-cons, take_more, total, wishes_among, wishes_in}
 
 one_wish : (s : Stmt) (b : Bool) → may_ask s ≡ b → wishes_among (s ∷ []) ≡ cond b 1 0
 one_wish s b e = grind arith

@@ -1,14 +1,9 @@
 -- One step of a processor in a world is one entry more of a legal list.
-use Rattle.std.proofs.Common.{◌≡◌, ℕ, ◌+◌, ◌<◌, ◌≤◌, Bool, true, false, cond, eqb, ◌&&◌, ◌||◌, List, ◌∷◌, ◌++◌, length, length-set, reverse, get_or, refl, sym, ◌∙◌, ap, subst, Option, Some, None, arith}
-use Rattle.gh_mutator.specs.Serving.{answer_at as answer_at_task}
-use Rattle.gh_world.specs.Vocabulary.{is_last}
-use Rattle.gh_base.specs.Steps.{IsShown}
-use Rattle.gh_lists.specs.declared.handshake.Actor.TheVariants as actor
-use Rattle.gh_world.specs.declared.runner.Runner.{Runner}
-use Rattle.gh_mutator.specs.Sound.{has_room}
-use Rattle.gh_world.specs.Turns.{Stands, statement_count, statement_now, next_point}
-use Rattle.gh_world.specs.World.{ComesNext, counts_after, event_at, event_by, last_after, LaysOut, MadeAtMost, now_by, now_in, op_at_turn, points_in}
-use Rattle.gh_world.proofs.Vocabulary.{acks_of, Actor, actor_after, acts, Answer, answer_in, answered_in, asks, Begins, begun_in, bit, by, cell_of, changed, ended_in, ends, Entry, eq-eqb, eqb-false, eqb-true, event_of, get_or-set_other, get_or-set_same, gives_at, has_left, InRange, is_busy_at, is_point, is_some, is_statement, its_goroutine, Layout, leave_is_begun, leaves, MayBeOver, Next, Op, op_due, option_to_list, Processor, processor_kind, Program, Progress, progress_after, request, set, setting_of, Shape, slice_get, started, state_of, statement_answer, statements_among, StepsAreShown, takes, target, Task, to_come, total_of, turns_of, WellFormed, with_goroutine, words_after}
+use Rattle.std.proofs.Common.{◌≡◌, ℕ, ◌+◌, ◌<◌, ◌≤◌, Bool, true, false, cond, eqb, ◌&&◌, ◌||◌, List, ◌∷◌, ◌++◌, length, length-set, reverse, get_or, refl, sym, ◌∙◌, ap, subst, Option, Some, None, arith, is_some, slice_get}
+use Rattle.std.proofs.lemmas.Bool.{eq-eqb, eqb-true}
+use Rattle.std.proofs.lemmas.List.{get_or-set_other, get_or-set_same}
+use Rattle.gh_world.proofs.Vocabulary.{acks_of, Actor, actor_after, acts, Answer, answer_at_task, answer_in, answered_in, Begins, begun_in, bit, by, cell_of, changed, ComesNext, counts_after, ended_in, ends, Entry, eqb-false, event_at, event_by, event_of, gives_at, has_left, has_room, InRange, is_busy_at, is_last, is_point, is_statement, IsShown, its_goroutine, last_after, Layout, LaysOut, leave_is_begun, leaves, MadeAtMost, MayBeOver, Next, next_point, now_by, now_in, Op, op_at_turn, op_due, option_to_list, points_in, Processor, processor_kind, Program, Progress, progress_after, request, Runner, set, setting_of, Shape, Stands, started, state_of, statement_answer, statement_count, statement_now, statements_among, StepsAreShown, takes, target, Task, to_come, total_of, turns_of, WellFormed, with_goroutine, words_after}
+use Rattle.gh_mutator.specs.Listing.{asks}
 use Rattle.gh_world.proofs.Due.{due_goroutine, false_unless}
 use Rattle.gh_world.proofs.MayBegin.{due_begins, ended_then}
 use Rattle.gh_world.proofs.OneRun.{one_more}
@@ -113,7 +108,7 @@ module _ (p : Program) (l : Layout) (runnable : WellFormed p) (laid : LaysOut p 
   turns_next t (Some o) new bs goes turns = turns ∙ ap (λ (xs : List Op). reverse bs ++ xs) goes.come ∙ sym (one_more o bs (to_come p a new))
 
   -- the entry's actor is the processor
-  runs_so : (es : List (Entry Op)) (b : Option Op) → started (setting_of p l).kind b (actor_after p l es a) ≡ actor.Runs (begun (state_of (processor_kind p.shapes l) a es) b)
+  runs_so : (es : List (Entry Op)) (b : Option Op) → started (setting_of p l).kind b (actor_after p l es a) ≡ Actor.Runs (begun (state_of (processor_kind p.shapes l) a es) b)
   runs_so es b = begun_is p l a seat es b
 
   -- it is one of the processor's own

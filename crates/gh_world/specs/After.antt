@@ -1,11 +1,8 @@
 -- That a world is the state of a list of steps, and what one step of it adds to that list.
 use Rattle.std.specs.Prelude.{◌≡◌, ℕ, ◌<◌, true, List, ◌∷◌, ◌++◌, length, reverse, slice_index, slice_get, Some}
-use Rattle.gh_base.specs.Lists.{by}
-use Rattle.gh_world.specs.declared.runner.Runner.{Runner}
-use Rattle.gh_lists.specs.Order.{begun_in, ended_in, has_left}
+use Rattle.gh_world.specs.Vocabulary.{begun_in, by, ended_in, Entry, Event, has_left, MOST_GOROUTINES, Op, Program, Progress, Runner, ShowsCells, words_after}
 use Rattle.gh_world.specs.Runs.{IsRunSoFar}
 use Rattle.gh_world.specs.Turns.{leave_is_begun, MayBeOver, statement_count, to_come, turns_of}
-use Rattle.gh_world.specs.Vocabulary.{Entry, Event, MOST_GOROUTINES, Op, Program, Progress, ShowsCells, words_after}
 use Rattle.gh_world.specs.World.{actor_after, actor_of, actors_of, answer_in, answered_in, event_of, marks_at, marks_by, marks_of, now_by, now_in, points_in, setting_of, State, with_goroutine}
 
 -- ---- book-keeping

@@ -1,26 +1,17 @@
 -- What a list says of its cycles, and what is live at its end: by the words where each cycle ended, and by the heap that never frees.
 use Rattle.std.specs.Prelude.{◌≡◌, ◌≢◌, ◌↔◌, ℕ, ◌*◌, List, [], ◌∷◌, ◌++◌, length, sum_by, AllPairs}
-use Rattle.gh_base.specs.declared.cell.Ask.{Ask}
+use Rattle.gh_world.specs.Vocabulary.{Ask, Entry, Ever, field_count, Layout, Name, Op, Shape, shape_of, SweptCycle, Words, words_after}
 use Rattle.gh_base.specs.declared.cell.Ask.TheVariants.{Store}
-use Rattle.gh_base.specs.declared.cell.Cell.TheVariants as cell
-use Rattle.gh_base.specs.declared.layout.Layout.{Layout}
-use Rattle.gh_base.specs.declared.machine.Entry.{Entry}
-use Rattle.gh_base.specs.declared.operation.Op.{Op}
-use Rattle.gh_base.specs.declared.shape.Shape.{Shape}
-use Rattle.gh_base.specs.declared.value.Name.{Name}
-use Rattle.gh_base.specs.Cells.{Words}
-use Rattle.gh_base.specs.Lists.{words_after}
+use Rattle.gh_base.specs.declared.cell.Cell.{Cell}
 use Rattle.gh_base.specs.Rows.{alloc_words, mark_words}
-use Rattle.gh_lines.specs.Text.{SweptCycle}
 use Rattle.gh_model.specs.declared.EverValue.TheVariants.{Ref}
-use Rattle.gh_model.specs.Ever.{Ever, field_count, shape_of}
 use Rattle.gh_sweep.specs.Counts.{marked_objects, unmarked_objects}
 use Rattle.gh_law.specs.Names.{IsAmong}
 
 -- A cycle ends with the step that stores the next sweep generation: its number, and how many objects are placed and marked, and placed and white, there.
 abbrev pub ended_by : Layout → Words → Ask → List SweptCycle
-ended_by l words (Store cell.Gen h) = record {
-  number = words cell.Begun;
+ended_by l words (Store Cell.Gen h) = record {
+  number = words Cell.Begun;
   marked = marked_objects (alloc_words words) (mark_words words) 0 l.pages;
   freed = unmarked_objects (alloc_words words) (mark_words words) 0 l.pages;
 } ∷ []

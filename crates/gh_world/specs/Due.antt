@@ -1,11 +1,8 @@
 -- What a processor begins by its turns, whoever makes its steps: what is due may begin, and behind it the processor is among its turns again.
 use Rattle.std.specs.Prelude.{◌≡◌, ℕ, true, false, List, [], ◌∷◌, length, Some, None}
-use Rattle.gh_base.specs.Lists.{by}
+use Rattle.gh_world.specs.Vocabulary.{arena_of, by, Entry, goroutine_is_over, goroutine_of, has_left, has_more, in_range, is_of, Layout, may_leave, Next, Op, Program, Progress, WellFormed}
 use Rattle.gh_world.specs.After.{KeepsPlace}
-use Rattle.gh_lists.specs.Order.{goroutine_is_over, goroutine_of, has_left, in_range}
-use Rattle.gh_lists.specs.Processors.{arena_of, has_more, is_of, may_leave}
 use Rattle.gh_world.specs.Turns.{Follows, op_due, to_come, turns_of}
-use Rattle.gh_world.specs.Vocabulary.{Entry, Layout, Next, Op, Program, Progress, WellFormed}
 use Rattle.gh_world.specs.Wishes.{wishes_of}
 use Rattle.gh_world.specs.World.{AreTurns, LaysOut, opening_progress, progress_after}
 

@@ -1,13 +1,7 @@
 -- The points of a run: which statements they are, and what the heap that never frees comes to along them alone.
 use Rattle.std.specs.Prelude.{◌≡◌, ℕ, zero, suc, ◌==◌, List, map, length, Option, Some, option_map}
-use Rattle.std.specs.List.{filter, range_with_len}
-use Rattle.gh_lines.specs.Text.{Outcome}
-use Rattle.gh_model.specs.Answers.{ever_after_all}
-use Rattle.gh_model.specs.Ever.{with_end}
-use Rattle.gh_script.specs.Program.{statement_as_op, statement_at}
-use Rattle.gh_lists.specs.Order.{acted_in, Answered, ever_of}
+use Rattle.gh_world.specs.Vocabulary.{acted_in, AllAnswer, Answer, Answered, Entry, Ever, ever_after_all, ever_of, filter, is_statement, Layout, Op, opening_ever, Outcome, Program, range_with_len, Shape, statement_as_op, statement_at, WellFormed, with_end}
 use Rattle.gh_world.specs.Runs.{IsExplained, IsRunSoFar}
-use Rattle.gh_world.specs.Vocabulary.{AllAnswer, Answer, Entry, Ever, is_statement, Layout, Op, opening_ever, Program, Shape, WellFormed}
 use Rattle.gh_world.specs.World.{LaysOut, points_in}
 
 -- the statement of a goroutine and a number, counted from 1, as an operation

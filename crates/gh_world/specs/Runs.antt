@@ -1,25 +1,12 @@
 -- Whole runs: a list of the steps of all actors in which each processor's operations are its turns, and at whose end all are done; and what such a list says of a script's answers, its cycles and what is live.
 use Rattle.std.specs.Prelude.{◌≡◌, ℕ, ◌+◌, ◌*◌, ◌%◌, ◌^◌, ◌<◌, ◌≤◌, Bool, true, false, List, [], ◌∷◌, ◌++◌, length, map, reverse, slice_get, Option, Some, None}
-use Rattle.std.specs.List.{filter}
-use Rattle.gh_world.specs.Vocabulary.{acts, AllAnswer, Answer, answers_by, Entry, Layout, Legal, Op, opening_ever, Program, statements_of, WellFormed, Words, words_after}
-use Rattle.gh_base.specs.Cells.{seats_of}
-use Rattle.gh_base.specs.Lists.{by}
-use Rattle.gh_base.specs.declared.operation.Op.TheVariants as op
-use Rattle.gh_base.specs.declared.value.Answer.TheVariants as answer
-use Rattle.gh_coord.specs.declared.cycles.Cycle.{Cycle}
+use Rattle.gh_world.specs.Vocabulary.{acted_at, acted_in, acts, AllAnswer, Answer, Answered, answers_by, arena_of, before_step, begun_in, by, Coordinating, Cycle, Entry, ever_of, filter, gives, IsFullFor, Layout, Leads, Legal, Op, opening_ever, order_of, Outcome, Program, seats_of, statement_as_op, statements_of, SweptCycle, WellFormed, Words, words_after}
 use Rattle.gh_coord.specs.Keeping.{last_kept}
-use Rattle.gh_coord.specs.Listing.{Coordinating}
-use Rattle.gh_lines.specs.Text.{Outcome, SweptCycle}
-use Rattle.gh_mutator.specs.Listing.{gives}
-use Rattle.gh_script.specs.Program.{statement_as_op}
-use Rattle.gh_lists.specs.declared.handshake.Actor.TheVariants.{Leads}
 use Rattle.gh_law.specs.Actors.{AllStands, AwaitedCycle}
 use Rattle.gh_law.specs.Below.{FreesTheUnreached, FreesWithinTwo, objects_in, scanned_in}
 use Rattle.gh_law.specs.Credit.{earned_in, lapsed_in, spent_among, spent_in}
 use Rattle.gh_world.specs.Cycles.{AreLive, cycles_in}
 use Rattle.gh_lists.specs.Numbers.{opened_in}
-use Rattle.gh_lists.specs.Order.{acted_at, acted_in, Answered, before_step, begun_in, ever_of, order_of}
-use Rattle.gh_lists.specs.Processors.{arena_of, IsFullFor}
 use Rattle.gh_world.specs.Schedule.{ended_after, IsInTurn}
 use Rattle.gh_world.specs.Turns.{turns_of, answers_to, is_of_seat, is_statement_of}
 use Rattle.gh_world.specs.Wishes.{most_cycles}
@@ -109,18 +96,18 @@ module _ (p : Program) (l : Layout) where
 
   -- whichever operation is answered `full`, it acted where there was no room
   abbrev pub FullMeansNoRoom : List (Entry Op) → Type 0
-  FullMeansNoRoom es = (i : ℕ) (a : Answered) → slice_get (acted_in p.shapes l es) i ≡ Some a → a.answer ≡ answer.Full → FoundNoRoom es i a.op
+  FullMeansNoRoom es = (i : ℕ) (a : Answered) → slice_get (acted_in p.shapes l es) i ≡ Some a → a.answer ≡ Answer.Full → FoundNoRoom es i a.op
 
   -- The operation acted in the list, behind i others, where a cycle that began behind its first entry was swept; and its answer is `swept`, given by that very step.
   pub record FoundSwept (es : List (Entry Op)) (i : ℕ) (a : Answered) : Type 0 where
     pub step : ActedBehind es i a.op false
     pub waited : Awaited step.entry.actor step.before a.op
-    pub given : gives l (before_step p.shapes l step.before step.entry) step.entry.found ≡ Some answer.Swept
-    pub answer : a.answer ≡ answer.Swept
+    pub given : gives l (before_step p.shapes l step.before step.entry) step.entry.found ≡ Some Answer.Swept
+    pub answer : a.answer ≡ Answer.Swept
 
   -- whichever operation is a `gc`, it acted where a cycle that began behind its first entry was swept
   abbrev pub EachGcWaits : List (Entry Op) → Type 0
-  EachGcWaits es = (i g : ℕ) (a : Answered) → slice_get (acted_in p.shapes l es) i ≡ Some a → a.op ≡ op.Gc g → FoundSwept es i a
+  EachGcWaits es = (i g : ℕ) (a : Answered) → slice_get (acted_in p.shapes l es) i ≡ Some a → a.op ≡ Op.Gc g → FoundSwept es i a
 
   -- What a run says of its credit is so of its list, and all that was earned was spent or has lapsed: the words of each object that workers have scanned, and one for each global.
   pub record CreditIsTold (es : List (Entry Op)) (o : Outcome) : Type 0 where

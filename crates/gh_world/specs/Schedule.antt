@@ -1,14 +1,8 @@
 -- The actors of a world: whose turn it is.
 use Rattle.std.specs.Prelude.{◌≡◌, ℕ, ◌+◌, ◌-◌, Bool, not, if◌then◌else◌, List, [], ◌∷◌, ◌++◌, Option, Some, None, nat_lt}
-use Rattle.std.specs.List.{range_with_len}
-use Rattle.gh_base.specs.declared.machine.Entry.{Entry}
-use Rattle.gh_base.specs.declared.operation.Op.{Op}
-use Rattle.gh_base.specs.Lists.{Setting, state_of}
+use Rattle.gh_world.specs.Vocabulary.{Actor, Entry, has_left_at, Leads, Marks, Op, range_with_len, Runs, Setting, state_of}
 use Rattle.gh_coord.specs.Listing as coord
-use Rattle.gh_mutator.specs.Serving.{has_left_at}
 use Rattle.gh_worker.specs.Listing as worker
-use Rattle.gh_lists.specs.declared.handshake.Actor.{Actor}
-use Rattle.gh_lists.specs.declared.handshake.Actor.TheVariants.{Runs, Marks, Leads}
 
 -- the actor has no step left: the processor has left, the worker is gone, the last cycle is swept
 abbrev pub has_ended : Actor → Bool

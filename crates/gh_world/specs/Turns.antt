@@ -1,16 +1,6 @@
 -- The turns of each processor, and what a step is to a statement.
 use Rattle.std.specs.Prelude.{◌≡◌, ℕ, ◌+◌, ◌-◌, ◌%◌, ◌<◌, ◌≤◌, nat_le, nat_lt, ◌==◌, ◌&&◌, Bool, true, false, if◌then◌else◌, List, [], ◌∷◌, ◌++◌, length, sum_by, Option, Some, None, unwrap_or}
-use Rattle.std.specs.List.{flat_map, range_with_len}
-use Rattle.gh_base.specs.declared.value.Answer.{Answer}
-use Rattle.gh_base.specs.declared.operation.Op.{Op}
-use Rattle.gh_base.specs.declared.operation.Op.TheVariants as op
-use Rattle.gh_base.specs.Packing.{bit}
-use Rattle.gh_interp.specs.Working.{work_of}
-use Rattle.gh_script.specs.Program.{Program, statements_of, statements_in}
-use Rattle.gh_world.specs.declared.turns.Next.{Next}
-use Rattle.gh_world.specs.declared.turns.Next.TheVariants as next
-use Rattle.gh_lists.specs.Order.{goroutine_of}
-use Rattle.gh_mutator.specs.Serving.{is_statement}
+use Rattle.gh_world.specs.Vocabulary.{Answer, bit, flat_map, goroutine_of, is_statement, Next, Op, Program, range_with_len, statements_in, statements_of, work_of}
 
 -- ---- the turns
 
@@ -35,14 +25,14 @@ has_turn p a r g = is_of_seat p a g && nat_le r (count_of p g)
 
 -- a turn is a poll and a statement, or a poll and the goroutine's end
 abbrev pub turn_of : Program → (a r g : ℕ) → List Op
-turn_of p a r g = if has_turn p a r g then op.Poll ∷ work_of p r g ∷ [] else []
+turn_of p a r g = if has_turn p a r g then Op.Poll ∷ work_of p r g ∷ [] else []
 
 abbrev pub round_of : Program → (a r : ℕ) → List Op
 round_of p a r = flat_map (turn_of p a r) (range_with_len 0 (length p.goroutines))
 
 -- Round after round each goroutine of the processor that has not ended has a turn, in ascending order; at last the processor leaves.
 unfoldable pub turns_of : Program → (a : ℕ) → List Op
-turns_of p a = flat_map (round_of p a) (range_with_len 0 (total_of p + 1)) ++ op.Leave ∷ []
+turns_of p a = flat_map (round_of p a) (range_with_len 0 (total_of p + 1)) ++ Op.Leave ∷ []
 
 -- ---- statements among operations
 
@@ -91,14 +81,14 @@ next_point false now = []
 -- the turns of goroutines from g on in round r, and all that follow
 abbrev pub later : Program → (a r g : ℕ) → List Op
 later p a r g =
-    flat_map (turn_of p a r) (range_with_len g (length p.goroutines - g)) ++ (flat_map (round_of p a) (range_with_len (r + 1) (total_of p - r)) ++ op.Leave ∷ [])
+    flat_map (turn_of p a r) (range_with_len g (length p.goroutines - g)) ++ (flat_map (round_of p a) (range_with_len (r + 1) (total_of p - r)) ++ Op.Leave ∷ [])
 
 -- what is still to begin
 abbrev pub to_come : Program → (a : ℕ) → Next → List Op
-to_come p a (next.Poll r g) = op.Poll ∷ work_of p r g ∷ later p a r (g + 1)
-to_come p a (next.Run r g) = work_of p r g ∷ later p a r (g + 1)
-to_come p a next.Leave = op.Leave ∷ []
-to_come p a next.Over = []
+to_come p a (Next.Poll r g) = Op.Poll ∷ work_of p r g ∷ later p a r (g + 1)
+to_come p a (Next.Run r g) = work_of p r g ∷ later p a r (g + 1)
+to_come p a Next.Leave = Op.Leave ∷ []
+to_come p a Next.Over = []
 
 -- the goroutine is of processor a, and has the turn
 pub record HasTurn (p : Program) (a r g : ℕ) : Type 0 where
@@ -107,8 +97,8 @@ pub record HasTurn (p : Program) (a r g : ℕ) : Type 0 where
   pub its : is_of_seat p a g ≡ true
 
 abbrev pub Stands : Program → (a : ℕ) → Next → Type 0
-Stands p a (next.Poll r g) = HasTurn p a r g
-Stands p a (next.Run r g) = HasTurn p a r g
+Stands p a (Next.Poll r g) = HasTurn p a r g
+Stands p a (Next.Run r g) = HasTurn p a r g
 Stands p a _ = Unit {0}
 
 -- the goroutine's last turn is over, where the next turn is that of g in round r
@@ -116,33 +106,33 @@ abbrev pub IsPast : Program → (r g h : ℕ) → Type 0
 IsPast p r g h = count_of p h < r + bit (nat_lt h g)
 
 abbrev pub MayBeOver : Program → Next → ℕ → Type 0
-MayBeOver p (next.Poll r g) h = IsPast p r g h
-MayBeOver p (next.Run r g) h = IsPast p r g h
+MayBeOver p (Next.Poll r g) h = IsPast p r g h
+MayBeOver p (Next.Run r g) h = IsPast p r g h
 MayBeOver p _ h = Unit {0}
 
 -- the processor has begun its leave
 abbrev pub leave_is_begun : Next → Bool
-leave_is_begun next.Over = true
+leave_is_begun Next.Over = true
 leave_is_begun _ = false
 
 -- a poll comes next, or what a turn has behind its poll
 abbrev pub is_poll_due : Next → Bool
-is_poll_due (next.Poll r g) = true
+is_poll_due (Next.Poll r g) = true
 is_poll_due _ = false
 
 abbrev pub is_run_due : Next → Bool
-is_run_due (next.Run r g) = true
+is_run_due (Next.Run r g) = true
 is_run_due _ = false
 
 -- what the processor begins next
 abbrev pub op_due : Program → Next → Option Op
-op_due p (next.Poll r g) = Some op.Poll
-op_due p (next.Run r g) = Some (work_of p r g)
-op_due p next.Leave = Some op.Leave
-op_due p next.Over = None
+op_due p (Next.Poll r g) = Some Op.Poll
+op_due p (Next.Run r g) = Some (work_of p r g)
+op_due p Next.Leave = Some Op.Leave
+op_due p Next.Over = None
 
 abbrev pub is_leave : Op → Bool
-is_leave op.Leave = true
+is_leave Op.Leave = true
 is_leave _ = false
 
 -- the turn behind the one that begins this operation
@@ -150,5 +140,5 @@ pub record Follows (p : Program) (a : ℕ) (before : Next) (o : Op) (new : Next)
   pub come : to_come p a before ≡ o ∷ to_come p a new
   pub stands : Stands p a new
   pub over : (g : ℕ) → MayBeOver p before g → MayBeOver p new g
-  pub ends : (g : ℕ) → o ≡ op.End g → MayBeOver p new g
+  pub ends : (g : ℕ) → o ≡ Op.End g → MayBeOver p new g
   pub leaves : leave_is_begun new ≡ is_leave o

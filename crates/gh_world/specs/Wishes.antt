@@ -1,9 +1,8 @@
 -- How many cycles a script may ask for, and how many it may have.
 use Rattle.std.specs.Prelude.{ℕ, ◌+◌, ◌*◌, Bool, true, false, List, length, sum_by}
-use Rattle.std.specs.List.{filter}
+use Rattle.gh_world.specs.Vocabulary.{filter, Goroutine, Program, statements_of}
 use Rattle.gh_script.specs.declared.statement.Stmt.{Stmt}
 use Rattle.gh_script.specs.declared.statement.Stmt.TheVariants.{New, Gc}
-use Rattle.gh_script.specs.Program.{Goroutine, Program, statements_of}
 
 -- it may ask for a cycle
 abbrev pub may_ask : Stmt → Bool

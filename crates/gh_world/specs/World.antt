@@ -1,30 +1,22 @@
 -- The world of the processors, the workers and the coordinator: what a list of their steps is answered, and that it is the state of such a list.
 use Rattle.std.specs.Prelude.{◌≡◌, ℕ, ◌+◌, ◌<◌, ◌≤◌, Bool, true, false, ◌==◌, if◌then◌else◌, not, List, [], ◌∷◌, ◌++◌, length, map, replicate, slice_index, slice_set, slice_get, ◌-◌, Option, Some, None, is_some, sum_by}
-use Rattle.std.specs.List.{range_with_len}
 use Rattle.std.specs.Option.{option_to_list}
-use Rattle.gh_base.specs.declared.cell.Ask.{Ask}
-use Rattle.gh_world.specs.Vocabulary.{Answer, Assist, Op, Shape, Layout, MOST_GOROUTINES, Entry, bit, InRange, IsLayoutOf, length_of, cell_of, changed, request, target, Setting, started, state_of, Program, WellFormed, NewStage, Place, Processor, Task, acts, is_busy_at, op_at, is_made, made_by, Mutating, goes, is_last, is_leaving, is_point, is_serving, is_statement, statement_answer, Next, Progress, Event, Want}
-use Rattle.gh_coord.specs.declared.cycles.Cycle.{Cycle}
+use Rattle.gh_world.specs.Vocabulary.{Actor, acts, Answer, arena_of, Ask, before_step, begun_in, bit, by, Cycle, Entry, Event, InRange, is_busy_at, is_last, is_leaving, is_point, is_serving, is_statement, IsLayoutOf, Layout, length_of, made_by, may_begin, MOST_GOROUTINES, Next, Op, op_at, Processor, processor_kind, Program, Progress, range_with_len, Runner, Setting, Shape, started, state_of, statement_answer, Task, WellFormed}
+use Rattle.gh_mutator.specs.declared.new.NewStage.TheVariants.{Assist, Place, Want}
+use Rattle.gh_base.specs.Steps.{cell_of, changed, request, target}
+use Rattle.gh_mutator.specs.declared.new.NewStage.{NewStage}
+use Rattle.gh_mutator.specs.New.{is_made}
+use Rattle.gh_mutator.specs.Mutating.{Mutating, goes, asks, begins, opening}
 use Rattle.gh_coord.specs.Listing as coord
 use Rattle.gh_coord.specs.Pacing.{first_trigger}
 use Rattle.gh_coord.specs.Sound.{SoundCoordinating}
 use Rattle.gh_mutator.specs.declared.task.Task.TheVariants.{New}
-use Rattle.gh_mutator.specs.Deeds.{processor_kind}
-use Rattle.gh_mutator.specs.Mutating.{asks, begins, opening}
-use Rattle.gh_base.specs.Lists.{by}
 use Rattle.gh_mutator.specs.PollRoom.{HasRoomToStore}
 use Rattle.gh_mutator.specs.Sound.{SoundMutating}
 use Rattle.gh_worker.specs.Listing as worker
 use Rattle.gh_worker.specs.Sound.{SoundWorking}
-use Rattle.gh_lists.specs.declared.handshake.Actor.{Actor}
-use Rattle.gh_lists.specs.declared.handshake.Actor.TheVariants as actor
-use Rattle.gh_world.specs.declared.event.Event.TheVariants as event
-use Rattle.gh_world.specs.declared.runner.Runner.{Runner}
-use Rattle.gh_world.specs.declared.turns.Next.TheVariants as next
 use Rattle.gh_lists.specs.Handshake.{Pacing, Setup, those}
 use Rattle.gh_lists.specs.Lists.{Given}
-use Rattle.gh_lists.specs.Order.{before_step, begun_in}
-use Rattle.gh_lists.specs.Processors.{arena_of, may_begin}
 use Rattle.gh_world.specs.Schedule.{ended_after, has_ended, turn_from}
 use Rattle.gh_world.specs.Turns.{total_by, total_of, to_come, Stands, leave_is_begun, later, op_due, Follows, its_goroutine, statements_among, statement_now, is_unacted, next_point}
 use Rattle.gh_world.specs.Wishes.{most_cycles, wishes_of}
@@ -59,25 +51,25 @@ LaysOut p l = IsLayoutOf p.settings.arena p.settings.globals p.settings.procs p.
 
 -- what a step of the processor says, where this statement was begun last: the actor's last step, or one that ends a statement or none
 abbrev pub event_at : ℕ × ℕ → Bool → Option Answer → Event
-event_at now true answer = event.Finished
-event_at now false None = event.Moved
-event_at now false (Some a) = event.Answered now.0 now.1 a
+event_at now true answer = Event.Finished
+event_at now false None = Event.Moved
+event_at now false (Some a) = Event.Answered now.0 now.1 a
 
 -- what a step says that tells this cycle to be swept, or none
 abbrev pub told_event : Option Cycle → Event
-told_event None = event.Moved
-told_event (Some c) = event.Swept c.k c.marked c.freed
+told_event None = Event.Moved
+told_event (Some c) = Event.Swept c.k c.marked c.freed
 
 -- what a step says of an actor that is done by it, and else this
 abbrev pub done_or : Option (Unit {0}) → Event → Event
 done_or None other = other
-done_or (Some x) other = event.Finished
+done_or (Some x) other = Event.Finished
 
 -- what a step of this actor says that has found this
 abbrev pub event_by : Layout → ℕ × ℕ → Actor → (found : ℕ) → Event
-event_by l now (actor.Runs m) found = event_at now (is_last m.task) (statement_answer l m found)
-event_by l now (actor.Marks w) found = done_or (worker.given (worker.goes l w found)) event.Moved
-event_by l now (actor.Leads c) found = done_or (coord.given (coord.goes l c found)) (told_event (coord.told_at c.cycles c.stage))
+event_by l now (Actor.Runs m) found = event_at now (is_last m.task) (statement_answer l m found)
+event_by l now (Actor.Marks w) found = done_or (worker.given (worker.goes l w found)) Event.Moved
+event_by l now (Actor.Leads c) found = done_or (coord.given (coord.goes l c found)) (told_event (coord.told_at c.cycles c.stage))
 
 -- the goroutine and the number of the statement that the actor began last
 abbrev pub now_by : (a : ℕ) → List (Entry Op) → ℕ × ℕ
@@ -95,10 +87,10 @@ with_goroutine g (Some a) = (g, a) ∷ []
 
 -- what an event says that a statement was answered
 abbrev pub answered_in : Event → List (ℕ × Answer)
-answered_in (event.Answered g n a) = (g, a) ∷ []
-answered_in event.Moved = []
-answered_in (event.Swept k marked freed) = []
-answered_in event.Finished = []
+answered_in (Event.Answered g n a) = (g, a) ∷ []
+answered_in Event.Moved = []
+answered_in (Event.Swept k marked freed) = []
+answered_in Event.Finished = []
 
 module _ (shapes : List Shape) (l : Layout) where
   -- what the entry's step gives the statement
@@ -181,7 +173,7 @@ pub record SoundWords (p : Program) (l : Layout) (list : List ℕ) : Type 0 wher
 
 -- of the poll before a statement: the processor polls, or has polled and begun nothing since,
 abbrev pub Polled : Next → Processor → Type 0
-Polled (next.Run r g) m = HasRoomToStore m
+Polled (Next.Run r g) m = HasRoomToStore m
 Polled _ m = Unit {0}
 
 -- of the turns of the processor at seat a: the next is one of its turns, the statements that have begun and those that are to come are all that its goroutines have, and what is counted of one goroutine is at most what is counted of all,
@@ -246,12 +238,12 @@ actors_of w = length w.runners + length w.workers + 1
 
 -- the worker, or behind the last of them the coordinator
 abbrev pub worker_or : coord.Coordinating → Option worker.Working → Actor
-worker_or c (Some x) = actor.Marks x
-worker_or c None = actor.Leads c
+worker_or c (Some x) = Actor.Marks x
+worker_or c None = Actor.Leads c
 
 -- the processor, or behind the last of them who is at this place among the others
 abbrev pub runner_or : Actor → Option Runner → Actor
-runner_or other (Some x) = actor.Runs x.mutator.processor
+runner_or other (Some x) = Actor.Runs x.mutator.processor
 runner_or other None = other
 
 -- the actor of this number
@@ -272,9 +264,9 @@ AllDone w = (a : ℕ) → a < actors_of w → is_done w a ≡ true
 
 -- an actor's marks: the statements answered, the words scanned, how often the phase word was stored
 abbrev pub marks_by : ℕ → Actor → ℕ
-marks_by answered (actor.Runs m) = answered
-marks_by answered (actor.Marks w) = w.marks
-marks_by answered (actor.Leads c) = c.marks
+marks_by answered (Actor.Runs m) = answered
+marks_by answered (Actor.Marks w) = w.marks
+marks_by answered (Actor.Leads c) = c.marks
 
 abbrev pub marks_of : State → ℕ → ℕ
 marks_of w a = marks_by (sum_by (λ (x : Runner). x.mutator.marks) (option_to_list (slice_get w.runners a))) (actor_of w a)
@@ -348,9 +340,22 @@ pub record Begins (p : Program) (a : ℕ) (old new : Runner) : Type 0 where
   pub goes : ComesNext p a old.progress.next o new.progress.next
   pub progress : new.progress ≡ progress_after old.progress o new.progress.next
 
--- what the processor's step finds in these words, in a heap of this layout
+-- what a processor's step finds in these words, in a heap of this layout
+abbrev pub found_by_step : Layout → List ℕ → Mutating → ℕ
+found_by_step l words m = slice_index words (target (request l (asks l m)))
+
+-- A step of a processor that is made in its place: it is on a word that there is, and is not its last. What it writes, where it leads, whether it is the point of the statement, and what that is answered by it.
+pub record MakesAtOnce (l : Layout) (before behind : List ℕ) (old new : Mutating) (pointed : Bool) (answer : Option Answer) : Type 0 where
+  pub within : InRange l (cell_of (asks l old))
+  pub words : behind ≡ changed (request l (asks l old)) before
+  pub goes : new ≡ goes l old (found_by_step l before old)
+  pub last : is_last old.processor.task ≡ false
+  pub point : is_point (acts l old.processor (found_by_step l before old)) ≡ pointed
+  pub answers : statement_answer l old.processor (found_by_step l before old) ≡ answer
+
+-- and what that of a runner finds
 abbrev pub found_for : Layout → List ℕ → Runner → ℕ
-found_for l words x = slice_index words (target (request l (asks l x.mutator)))
+found_for l words x = found_by_step l words x.mutator
 
 -- What the code of a processor's step has done: what it has begun, the step on that, and what is told of it.
 pub record Ran (p : Program) (l : Layout) (a : ℕ) (before behind : List ℕ) (old new : Runner) (happened : Event) (pointed : Bool) : Type 0 where
@@ -386,7 +391,7 @@ pub record IsStepOfWorker (old new : State) (i : ℕ) (happened : Event) : Type 
   pub is : slice_get old.workers i ≡ Some before_it
   pub within : InRange old.layout (cell_of (worker.asks old.layout before_it))
   pub others : new ≡ record old { words = changed (request old.layout (worker.asks old.layout before_it)) old.words; workers = slice_set old.workers i (worker.goes old.layout before_it (found_by old (worker.asks old.layout before_it))) }
-  pub says : happened ≡ done_or (worker.given (worker.goes old.layout before_it (found_by old (worker.asks old.layout before_it)))) event.Moved
+  pub says : happened ≡ done_or (worker.given (worker.goes old.layout before_it (found_by old (worker.asks old.layout before_it)))) Event.Moved
 
 -- one step of the coordinator
 pub record IsStepOfCoordinator (old new : State) (happened : Event) : Type 0 where

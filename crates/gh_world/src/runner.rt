@@ -15,7 +15,7 @@ ghost use Rattle.gh_mutator.specs.Mutating.{asks, goes, is_busy, passes, sets};
 ghost use Rattle.gh_mutator.specs.Serving.{has_left_at, is_last, is_point, statement_answer};
 ghost use Rattle.gh_mutator.specs.Sound.{SoundMutating};
 ghost use Rattle.gh_world.specs.Turns.{is_poll_due, op_due};
-ghost use Rattle.gh_world.specs.World.{event_at, now_of, op_at_turn, Begins, SoundTurns, IsOpening, LaysOut, Ran};
+ghost use Rattle.gh_world.specs.World.{event_at, now_of, op_at_turn, Begins, SoundTurns, IsOpening, LaysOut, MakesAtOnce, Ran};
 
 use crate::event::{Event, event_at};
 use crate::progress::Progress;
@@ -34,15 +34,7 @@ use gh_words::{Plain, Words};
 fn goes_on<'s>(layout: &Layout, mutator: &mut Mutator<'s>, words: &Plain) -> bool
     requires sound { SoundMutating layout.now mutator.old.shapes mutator.old.processor }
     requires long { length words.now ≡ length_of layout.now }
-    ensures words { IsTrue result → words.now ≡ changed (request layout.now (asks layout.now mutator.old)) words.now }
-    ensures within { IsTrue result → InRange layout.now (cell_of (asks layout.now mutator.old)) }
-    ensures goes { let found = slice_index words.now (target (request layout.now (asks layout.now mutator.old))) in
-        IsTrue result → mutator.new ≡ goes layout.now mutator.old found }
-    ensures last { IsTrue result → is_last mutator.old.processor.task ≡ false }
-    ensures point { let found = slice_index words.now (target (request layout.now (asks layout.now mutator.old))) in
-        IsTrue result → is_point (mutating.acts layout.now mutator.old found) ≡ false }
-    ensures answer { let found = slice_index words.now (target (request layout.now (asks layout.now mutator.old))) in
-        IsTrue result → statement_answer layout.now mutator.old.processor found ≡ None }
+    ensures made { IsTrue result → MakesAtOnce layout.now words.now words.now mutator.old mutator.new false None }
     ensures sound { SoundMutating layout.now mutator.new.shapes mutator.new.processor }
     ensures stays { result ≡ false → mutator.new ≡ mutator.old }
 {
@@ -65,15 +57,7 @@ fn goes_on<'s>(layout: &Layout, mutator: &mut Mutator<'s>, words: &Plain) -> boo
 fn waits<'s>(layout: &Layout, mutator: &mut Mutator<'s>, words: &Plain) -> bool
     requires sound { SoundMutating layout.now mutator.old.shapes mutator.old.processor }
     requires long { length words.now ≡ length_of layout.now }
-    ensures words { IsTrue result → words.now ≡ changed (request layout.now (asks layout.now mutator.old)) words.now }
-    ensures within { IsTrue result → InRange layout.now (cell_of (asks layout.now mutator.old)) }
-    ensures goes { let found = slice_index words.now (target (request layout.now (asks layout.now mutator.old))) in
-        IsTrue result → mutator.new ≡ goes layout.now mutator.old found }
-    ensures last { IsTrue result → is_last mutator.old.processor.task ≡ false }
-    ensures point { let found = slice_index words.now (target (request layout.now (asks layout.now mutator.old))) in
-        IsTrue result → is_point (mutating.acts layout.now mutator.old found) ≡ false }
-    ensures answer { let found = slice_index words.now (target (request layout.now (asks layout.now mutator.old))) in
-        IsTrue result → statement_answer layout.now mutator.old.processor found ≡ None }
+    ensures made { IsTrue result → MakesAtOnce layout.now words.now words.now mutator.old mutator.new false None }
     ensures sound { SoundMutating layout.now mutator.new.shapes mutator.new.processor }
     ensures stays { result ≡ false → mutator.new ≡ mutator.old }
 {
@@ -86,22 +70,33 @@ fn waits<'s>(layout: &Layout, mutator: &mut Mutator<'s>, words: &Plain) -> bool
     }
 }
 
+/// Makes a step of the load or the store of a field, where it goes on to its next word at once ([`Mutator::reads`]). It answers whether
+/// it did; where not, nothing is done. Such a step is a load, which changes no word.
+#[inline(never)]
+fn reads<'s>(layout: &Layout, mutator: &mut Mutator<'s>, words: &Plain) -> bool
+    requires sound { SoundMutating layout.now mutator.old.shapes mutator.old.processor }
+    requires long { length words.now ≡ length_of layout.now }
+    ensures made { IsTrue result → MakesAtOnce layout.now words.now words.now mutator.old mutator.new false None }
+    ensures sound { SoundMutating layout.now mutator.new.shapes mutator.new.processor }
+    ensures stays { result ≡ false → mutator.new ≡ mutator.old }
+{
+    match mutator.reads_at(layout) {
+        Some(cell) => {
+            let word = layout.word(cell);
+            mutator.reads(layout, words.word_at(word))
+        }
+        None => false,
+    }
+}
+
 /// Makes a step of the making of an object at once ([`Mutator::make_on`]), and answers whether it is the point of the statement.
 #[inline(never)]
 fn make_on<'s>(layout: &Layout, mutator: &mut Mutator<'s>, words: &mut Plain) -> bool
     requires sound { SoundMutating layout.now mutator.old.shapes mutator.old.processor }
     requires further { is_made_further mutator.old.processor.task ≡ true }
     requires long { length words.old ≡ length_of layout.now }
-    ensures words { words.new ≡ changed (request layout.now (asks layout.now mutator.old)) words.old }
-    ensures within { InRange layout.now (cell_of (asks layout.now mutator.old)) }
-    ensures goes { let found = slice_index words.old (target (request layout.now (asks layout.now mutator.old))) in
-        mutator.new ≡ goes layout.now mutator.old found }
+    ensures made { MakesAtOnce layout.now words.old words.new mutator.old mutator.new result None }
     ensures busy { is_busy mutator.old ≡ true }
-    ensures last { is_last mutator.old.processor.task ≡ false }
-    ensures point { let found = slice_index words.old (target (request layout.now (asks layout.now mutator.old))) in
-        is_point (mutating.acts layout.now mutator.old found) ≡ result }
-    ensures answer { let found = slice_index words.old (target (request layout.now (asks layout.now mutator.old))) in
-        statement_answer layout.now mutator.old.processor found ≡ None }
     ensures sound { SoundMutating layout.now mutator.new.shapes mutator.new.processor }
 {
     mutator.make_on(layout, words)
@@ -113,15 +108,7 @@ fn make_on<'s>(layout: &Layout, mutator: &mut Mutator<'s>, words: &mut Plain) ->
 fn end_making<'s>(layout: &Layout, mutator: &mut Mutator<'s>, words: &Plain) -> Option<Name>
     requires sound { SoundMutating layout.now mutator.old.shapes mutator.old.processor }
     requires long { length words.now ≡ length_of layout.now }
-    ensures words { IfSome result (λ name. words.now ≡ changed (request layout.now (asks layout.now mutator.old)) words.now) }
-    ensures within { IfSome result (λ name. InRange layout.now (cell_of (asks layout.now mutator.old))) }
-    ensures goes { let found = slice_index words.now (target (request layout.now (asks layout.now mutator.old))) in
-        IfSome result (λ name. mutator.new ≡ goes layout.now mutator.old found) }
-    ensures last { IfSome result (λ name. is_last mutator.old.processor.task ≡ false) }
-    ensures point { let found = slice_index words.now (target (request layout.now (asks layout.now mutator.old))) in
-        IfSome result (λ name. is_point (mutating.acts layout.now mutator.old found) ≡ false) }
-    ensures answer { let found = slice_index words.now (target (request layout.now (asks layout.now mutator.old))) in
-        IfSome result (λ name. statement_answer layout.now mutator.old.processor found ≡ Some (answers.Ref name)) }
+    ensures made { IfSome result (λ name. MakesAtOnce layout.now words.now words.now mutator.old mutator.new false (Some (answers.Ref name))) }
     ensures sound { SoundMutating layout.now mutator.new.shapes mutator.new.processor }
     ensures stays { result ≡ None → mutator.new ≡ mutator.old }
 {
@@ -138,15 +125,7 @@ fn end_making<'s>(layout: &Layout, mutator: &mut Mutator<'s>, words: &Plain) -> 
 fn end_naming<'s>(layout: &Layout, mutator: &mut Mutator<'s>, words: &Plain) -> Option<Answer>
     requires sound { SoundMutating layout.now mutator.old.shapes mutator.old.processor }
     requires long { length words.now ≡ length_of layout.now }
-    ensures words { IfSome result (λ a. words.now ≡ changed (request layout.now (asks layout.now mutator.old)) words.now) }
-    ensures within { IfSome result (λ a. InRange layout.now (cell_of (asks layout.now mutator.old))) }
-    ensures goes { let found = slice_index words.now (target (request layout.now (asks layout.now mutator.old))) in
-        IfSome result (λ a. mutator.new ≡ goes layout.now mutator.old found) }
-    ensures last { IfSome result (λ a. is_last mutator.old.processor.task ≡ false) }
-    ensures point { let found = slice_index words.now (target (request layout.now (asks layout.now mutator.old))) in
-        IfSome result (λ a. is_point (mutating.acts layout.now mutator.old found) ≡ false) }
-    ensures answer { let found = slice_index words.now (target (request layout.now (asks layout.now mutator.old))) in
-        IfSome result (λ a. statement_answer layout.now mutator.old.processor found ≡ Some a) }
+    ensures made { IfSome result (λ a. MakesAtOnce layout.now words.now words.now mutator.old mutator.new false (Some a)) }
     ensures sound { SoundMutating layout.now mutator.new.shapes mutator.new.processor }
     ensures stays { result ≡ None → mutator.new ≡ mutator.old }
 {
@@ -201,12 +180,15 @@ impl<'s> Runner<'s> {
             return self.advance(layout, words);
         }
         self.begin_next(script, layout, seat);
+        if reads(layout, &mut self.mutator, words) {
+            return (Event::Moved, false);
+        }
         self.advance(layout, words)
     }
 
     /// Makes one step of the processor at this seat at once, where that says nothing more than that it moved, and is a poll with
-    /// nothing to do, or a step of the search or the making of an object, or of the wait of a `gc`, that goes on. It answers whether
-    /// it is the point of the statement begun last; `None`: nothing is done.
+    /// nothing to do, or a step of the search or the making of an object, of the wait of a `gc`, or of the load or the store of a field,
+    /// that goes on. It answers whether it is the point of the statement begun last; `None`: nothing is done.
     // Most of all steps are such, and none of them goes through all that a processor may be at.
     #[inline(always)]
     pub fn moves(
@@ -241,6 +223,9 @@ impl<'s> Runner<'s> {
             return None;
         }
         if self.mutator.is_waiting() && waits(layout, &mut self.mutator, words) {
+            return Some(false);
+        }
+        if self.mutator.is_at_field() && reads(layout, &mut self.mutator, words) {
             return Some(false);
         }
         None

@@ -1,11 +1,9 @@
 -- What holds of each handle that a heap opens with, and of each actor that was run.
 use Rattle.std.proofs.Common.{◌≡◌, ◌∙◌, ℕ, List, [], ◌∷◌, All, length, get_or, subst}
-use Rattle.std.proofs.lemmas.List.Elements.{All-cons, All-head, All-nil, All-tail}
+use Rattle.goheap_example.proofs.Vocabulary.{All-cons, All-head, All-nil, All-tail, AreOf, IsActorOf, IsHandleOf}
 use Rattle.gh_gate.specs.Jobs.{AllHaveRun}
 use Rattle.gh_shared.specs.declared.heap.Heap.{Heap}
-use Rattle.gh_shared.specs.Handles.{IsHandleOf}
 use Rattle.goheap_example.specs.declared.actor.Actor.{Actor}
-use Rattle.goheap_example.specs.Actors.{AreOf, IsActorOf}
 
 -- what holds of each job at its end, where so much holds of each at its begin
 at_end : {J W : Type 0} (ended : J → Type 0) (which : J → W) (P Q : J → Type 0) → ((was now : J) → P was → ended now → which now ≡ which was → Q now) → (jobs done : List J) → All P jobs → AllHaveRun ended which jobs done → All Q done

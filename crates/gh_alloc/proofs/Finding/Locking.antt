@@ -1,7 +1,7 @@
 -- The search has the lock at the stages that say so.
 use Rattle.std.proofs.Common.{◌≡◌, ℕ, Bool, true, false, cond, nat_eq, Option, refl, sym, ◌∙◌, arith}
+use Rattle.gh_alloc.proofs.Vocabulary.{After, after_carve, after_give, after_pass, after_slots, after_unswept, at_stage, begin, CachedSpan, Carve, CarveStage, Ended, Finding, FindStage, Give, Layout, Lock, lock_after, locked_for, Pass, searched, Slots, SlotStage, Sought, Unlock, unlocked, Unswept}
 use Rattle.gh_cache.specs.Listing as slots
-use Rattle.gh_cache.specs.declared.next_slot.SlotStage.{SlotStage}
 use Rattle.gh_central.specs.GiveBack as give
 use Rattle.gh_central.specs.declared.give.GiveStage.{GiveStage}
 use Rattle.gh_central.specs.SweptPass as pass
@@ -9,10 +9,7 @@ use Rattle.gh_central.specs.declared.pass.PassStage.{PassStage}
 use Rattle.gh_central.specs.UnsweptPass as unswept
 use Rattle.gh_central.specs.declared.unswept.UnsweptStage.{UnsweptStage}
 use Rattle.gh_pages.specs.Listing as carve
-use Rattle.gh_pages.specs.declared.carve.CarveStage.{CarveStage}
-use Rattle.gh_alloc.specs.Vocabulary.{Layout, Sought, CachedSpan, After, FindStage, Slots, Lock, Give, Pass, Unswept, Carve, Unlock, Ended}
-use Rattle.gh_alloc.specs.Find.{Finding, after_carve, after_give, after_pass, after_slots, after_unswept, asks_at, at_stage, begin, goes_at, locked_for, searched, unlocked}
-use Rattle.gh_alloc.specs.Locking.{lock_after}
+use Rattle.gh_alloc.specs.Find.{asks_at, goes_at}
 
 abbrev pub has_lock : FindStage → Bool
 has_lock (Slots s) = false

@@ -1,9 +1,6 @@
 -- The search keeps its numbers in their limits, and each of its steps lies in the heap: by its stages. Of the routines that it runs it is known that they are routines.
 use Rattle.std.proofs.Common.{IfSome, ◌≡◌, ℕ, ◌+◌, ◌*◌, ◌^◌, ◌<◌, ◌≤◌, Bool, true, cond, eqb, Option, refl, ap, ◌∙◌, arith}
-use Rattle.std.proofs.lemmas.Bool.Decides.{nat_tests}
-use Rattle.gh_base.specs.Machines.{IsRoutine}
-use Rattle.gh_class.specs.declared.class.SizeClass.TheVariants as size
-use Rattle.gh_class.specs.Classes.{slot_of}
+use Rattle.gh_alloc.proofs.Vocabulary.{after_carve, after_give, after_pass, after_slots, after_unswept, Again, At, at_stage, begin, behind_for, CachedSpan, Carve, End, Ended, Finding, FindStage, first_page, Give, IsRoutine, IsSearched, IsSought, IsStage, Layout, LiesWithin, Lock, locked_for, move_cursor, nat_tests, pages_of, Pass, searched, SizeClass, slot_of, Slots, slots_of, Small, Sought, Sound, span_for, spans_for, Unlock, Unswept, word_at_cursor}
 use Rattle.gh_cache.specs.Listing as slots
 use Rattle.gh_cache.specs.Sound as slots_sound
 use Rattle.gh_central.specs.GiveBack as give
@@ -11,11 +8,9 @@ use Rattle.gh_central.specs.SweptPass as pass
 use Rattle.gh_central.specs.UnsweptPass as unswept
 use Rattle.gh_pages.specs.Listing as carve
 use Rattle.gh_pages.specs.Sound as carve_sound
-use Rattle.gh_alloc.specs.Find.{goes_at, listing, move_cursor, word_at_cursor}
-use Rattle.gh_alloc.specs.Within.{LiesWithin}
-use Rattle.gh_alloc.specs.FindSound.{IsCached, IsSearched, IsSought, IsStage, Sound}
+use Rattle.gh_alloc.specs.Find.{goes_at, listing}
+use Rattle.gh_alloc.specs.FindSound.{IsCached}
 use Rattle.gh_alloc.proofs.Finding.Within.{slot_fits_heap}
-use Rattle.gh_alloc.proofs.Vocabulary.{after_carve, after_give, after_pass, after_slots, after_unswept, At, at_stage, begin, behind_for, CachedSpan, Carve, Ended, Finding, FindStage, first_page, Give, Large, Layout, Lock, locked_for, pages_of, Pass, searched, Slots, slots_of, Small, Sought, span_for, spans_for, taken_for, Again, End, Unlock, Unswept}
 
 -- a span of each size class has pages, and few
 pub record PagesAreFew : Type 0 where
@@ -36,7 +31,7 @@ pub record Known : Type 0 where
 same_class : (s : slots.Searching) (found : ℕ) → (slots.goes s found).span.class ≡ s.span.class
 same_class s found = grind arith
 
-cached_kept : (l : Layout) (w : Sought) (cached : Option CachedSpan) (s : slots.Searching) → slots_sound.Sound l s → size.Small s.span.class ≡ (span_for w).class → IsCached l w cached → IsCached l w (move_cursor s.span.cursor cached)
+cached_kept : (l : Layout) (w : Sought) (cached : Option CachedSpan) (s : slots.Searching) → slots_sound.Sound l s → SizeClass.Small s.span.class ≡ (span_for w).class → IsCached l w cached → IsCached l w (move_cursor s.span.cursor cached)
 cached_kept l w cached s x same within = grind arith
 
 -- and it is the one that is searched
@@ -63,18 +58,14 @@ module _ (p : PagesAreFew) (l : Layout) (f : Finding) (x : Sound l f) where
   begins : ((c : ℕ) → c < 25 → slots_of c ≤ 1024) → (w : Sought) (c : Option CachedSpan) → IsSought w → IsCached l w c → IsStage l w (begin w c)
   begins few w c s h = grind (arith, nat_tests, few)
 
-  -- the span that is taken lies in the arena
-  taken_sound : (w : Sought) (page : ℕ) → f.wanted ≡ w → IsSought w → ((pages : ℕ) (noscan : Bool) → w ≡ Large pages noscan → page + pages ≤ l.pages) → Sound l (taken_for l f w page)
-  taken_sound w page e s large = let fit = l.limits.pages_fit.0 in grind (arith, nat_tests, p.few)
-
 module _ (k : Known) (l : Layout) (f : Finding) (x : Sound l f) where
   -- after a step of the routine that it runs, by what that has given
-  slots_then : (s : slots.Searching) (out : Option (Option ℕ)) → slots.given s ≡ out → size.Small s.span.class ≡ (span_for f.wanted).class → slots_sound.Sound l s → IsSearched (move_cursor s.span.cursor f.cached) (Slots s) →
+  slots_then : (s : slots.Searching) (out : Option (Option ℕ)) → slots.given s ≡ out → SizeClass.Small s.span.class ≡ (span_for f.wanted).class → slots_sound.Sound l s → IsSearched (move_cursor s.span.cursor f.cached) (Slots s) →
       IfSome out (λ slot. IfSome slot (λ _. LiesWithin l f.wanted (At (word_at_cursor f.wanted (move_cursor s.span.cursor f.cached))))) → Sound l (after_slots (searched f s) out)
   slots_then s out e class z tied lies = let cached = cached_kept l f.wanted f.cached s z class x.cached in grind arith
 
   slots_to : (s : slots.Searching) (found : ℕ) → IsStage l f.wanted (Slots s) → IsSearched f.cached (Slots s) → slots_sound.Sound l (slots.goes s found) → Sound l (goes_at l f (Slots s) found)
-  slots_to s found y tied z = slots_then (slots.goes s found) _ refl (ap (λ (c : ℕ). size.Small c) (same_class s found) ∙ y.1) z (searched_kept f.cached s found tied) (slot_fits_heap k.fit l f s found y x.cached)
+  slots_to s found y tied z = slots_then (slots.goes s found) _ refl (ap (λ (c : ℕ). SizeClass.Small c) (same_class s found) ∙ y.1) z (searched_kept f.cached s found tied) (slot_fits_heap k.fit l f s found y x.cached)
 
   give_to : (g : give.SpanGiving) (out : Option (Unit {0})) → give.given g ≡ out → (give.listing l).sound g → Sound l (after_give (at_stage f (Give g)) out)
   give_to g out e z = let spans = spans_open k.pages l f x f.wanted refl x.wanted in grind arith

@@ -1,16 +1,11 @@
 -- The slot that the search of a cached span ends with lies in the arena.
 use Rattle.std.proofs.Common.{◌≡◌, ℕ, suc, ◌+◌, ◌*◌, ◌/◌, ◌<◌, ◌≤◌, Option, Some, None, IfSome, is_none, true, subst, arith}
 use Rattle.std.proofs.Math.Nat.{mul-le-mul_left, mul-le-mul_right}
+use Rattle.gh_alloc.proofs.Vocabulary.{At, CachedSpan, Finding, IsStage, Large, Layout, LiesWithin, move_cursor, pages_of, SizeClass, slot_of, Slots, slots_of, SlotStage, Small, Sought, span_for, SpanClass, word_at_cursor, words_sought}
 use Rattle.gh_class.specs.declared.class.TheConstants.{CLASSES}
-use Rattle.gh_class.specs.declared.class.SizeClass.TheVariants as size
-use Rattle.gh_class.specs.Classes.{pages_of, slot_of, slots_of}
 use Rattle.gh_cache.specs.Listing as slots
 use Rattle.gh_cache.specs.Sound as slots_sound
-use Rattle.gh_cache.specs.declared.next_slot.SlotStage.{SlotStage}
-use Rattle.gh_alloc.specs.Vocabulary.{Layout, SpanClass, Sought, Small, Large, CachedSpan, At, Slots}
-use Rattle.gh_alloc.specs.Find.{Finding, move_cursor, span_for, word_at_cursor}
-use Rattle.gh_alloc.specs.FindSound.{IsCached, IsStage}
-use Rattle.gh_alloc.specs.Within.{LiesWithin, words_sought}
+use Rattle.gh_alloc.specs.FindSound.{IsCached}
 
 -- a slot of a span in the arena lies in the arena
 slot_fits : (head cursor slots size pages total : ℕ) → cursor < slots → slots * size ≤ 8192 * pages → head + pages ≤ total → 1024 * head + cursor * (size / 8) + size / 8 ≤ 1024 * total
@@ -30,7 +25,7 @@ record IsAtSlot (l : Layout) (cursor class : ℕ) : Type 0 where
 looks_below : (s : slots.Searching) (p : SlotStage) → slots_sound.IsStage s.span p → is_none (slots.given_at p) ≡ true → s.span.cursor < slots_of s.span.class
 looks_below s p here busy = grind arith
 
-same_class : (c d : ℕ) → size.Small c ≡ size.Small d → c ≡ d
+same_class : (c d : ℕ) → SizeClass.Small c ≡ SizeClass.Small d → c ≡ d
 same_class c d e = grind arith
 
 module _ (fit : (c : ℕ) → c < CLASSES → slots_of c * slot_of c ≤ 8192 * pages_of c) where
@@ -43,7 +38,7 @@ module _ (fit : (c : ℕ) → c < CLASSES → slots_of c * slot_of c ≤ 8192 * 
       let first : 1024 * 0 + 0 * (slot_of c.class / 8) + slot_of c.class / 8 ≤ 1024 * l.pages = slot_fits 0 0 (slots_of c.class) (slot_of c.class) (pages_of c.class) l.pages some (fit c.class at.among) pages in
       omega arith
 
-  word_fits : (l : Layout) (w : Sought) (cached : Option CachedSpan) (cursor class : ℕ) → IsAtSlot l cursor class → size.Small class ≡ (span_for w).class → IsCached l w cached →
+  word_fits : (l : Layout) (w : Sought) (cached : Option CachedSpan) (cursor class : ℕ) → IsAtSlot l cursor class → SizeClass.Small class ≡ (span_for w).class → IsCached l w cached →
       word_at_cursor w (move_cursor cursor cached) + words_sought w ≤ 1024 * l.pages
   word_fits l w cached cursor class at same within = grind (arith, small_fits)
 

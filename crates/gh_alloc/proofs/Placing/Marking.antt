@@ -1,24 +1,17 @@
 -- While marking is on, an object is marked before it is made; while it is off, nothing is marked: by its stages.
 use Rattle.std.proofs.Common.{◌≡◌, ◌≢◌, ℕ, zero, suc, ◌+◌, ◌*◌, ◌%◌, ◌^◌, Bool, true, false, cond, nat_lt, Option, Some, None, is_none, refl, sym, ap, ◌∙◌, arith}
-use Rattle.gh_base.specs.declared.cell.Cell.TheVariants as cell
-use Rattle.gh_base.specs.declared.cell.Ask.TheVariants.{Or}
-use Rattle.gh_base.specs.declared.pack.SpanHead.{SpanHead}
-use Rattle.gh_base.specs.declared.layout.Layout.{Layout}
-use Rattle.gh_base.specs.Machines.{steps_of}
-use Rattle.gh_base.specs.Routines.{told}
-use Rattle.gh_base.specs.Steps.{cell_of}
+use Rattle.gh_alloc.proofs.Vocabulary.{Alloc, Birth, Bits, Cell, cell_of, Clear, Count, counted, filled, Layout, LoadTrigger, made, Mark, opening, Or, PlaceStage, Placing, SpanHead, steps_of, told}
 use Rattle.gh_bitmap.specs.SetPointers as bits
-use Rattle.gh_alloc.specs.declared.place.PlaceStage.{PlaceStage}
-use Rattle.gh_alloc.specs.declared.place.PlaceStage.TheVariants.{Clear, Birth, Bits, Mark, Alloc, Count, LoadTrigger, Ended}
+use Rattle.gh_alloc.specs.declared.place.PlaceStage.TheVariants.{Ended}
 use Rattle.gh_alloc.specs.Marking.{AnObjectIsMarkedBeforeItIsMade, IsMarkedBefore}
-use Rattle.gh_alloc.specs.Place.{Placing, asks, asks_at, counted, filled, goes_at, listing, made, opening}
+use Rattle.gh_alloc.specs.Place.{asks, asks_at, goes_at, listing}
 
 -- The alloc bits are set at one stage, and the mark bits at one.
 
-sets_alloc : (l : Layout) (p : Placing) (q : PlaceStage) (i w : ℕ) → asks_at l p q ≡ Or (cell.Alloc i) w → q ≡ Alloc
+sets_alloc : (l : Layout) (p : Placing) (q : PlaceStage) (i w : ℕ) → asks_at l p q ≡ Or (Cell.Alloc i) w → q ≡ Alloc
 sets_alloc l p q i w e = grind arith
 
-sets_mark : (l : Layout) (p : Placing) (q : PlaceStage) (i : ℕ) → cell_of (asks_at l p q) ≡ cell.Mark i → q ≡ Mark
+sets_mark : (l : Layout) (p : Placing) (q : PlaceStage) (i : ℕ) → cell_of (asks_at l p q) ≡ Cell.Mark i → q ≡ Mark
 sets_mark l p q i e = grind arith
 
 -- Where marking is on, the stage before that of the alloc bit is that of the mark bit.
@@ -53,7 +46,7 @@ no_mark p Alloc w off e = absurd (unmarked_made p p.span e)
 no_mark p Count w off e = absurd (unmarked_counted p w e)
 no_mark p _ w off e = absurd (cc)
 
-same_bits : (i j w x : ℕ) → Or (cell.Alloc i) w ≡ Or (cell.Alloc j) x → Or (cell.Mark i) w ≡ Or (cell.Mark j) x
+same_bits : (i j w x : ℕ) → Or (Cell.Alloc i) w ≡ Or (Cell.Alloc j) x → Or (Cell.Mark i) w ≡ Or (Cell.Mark j) x
 same_bits i j w x e = cc
 
 module _ (l : Layout) (p : Placing) (found : ℕ → ℕ) where
@@ -64,7 +57,7 @@ module _ (l : Layout) (p : Placing) (found : ℕ → ℕ) where
   keeps_marking zero = refl
   keeps_marking (suc n) = keeps_marking n
 
-  marked : p.marking ≡ true → p.stage ≡ Clear 0 → (n i w : ℕ) → asks l (after n) ≡ Or (cell.Alloc i) w → IsMarkedBefore l p found n i w
+  marked : p.marking ≡ true → p.stage ≡ Clear 0 → (n i w : ℕ) → asks l (after n) ≡ Or (Cell.Alloc i) w → IsMarkedBefore l p found n i w
   marked on first n i w e = grind (arith, from_mark, keeps_marking, same_bits, sets_alloc)
 
 pub marked_first : AnObjectIsMarkedBeforeItIsMade

@@ -1,11 +1,10 @@
 -- The making of an object keeps its numbers in their limits, and each of its steps lies in the heap: by its stages.
 use Rattle.std.proofs.Common.{◌≡◌, ℕ, ◌+◌, ◌*◌, ◌^◌, ◌<◌, ◌≤◌, Bool, cond, is_none, refl, arith}
-use Rattle.gh_base.specs.Machines.{IsRoutine}
+use Rattle.gh_alloc.proofs.Vocabulary.{Bits, filled, FitsSpanHead, IsRoutine, Layout, nat_tests, PlaceStage, Placing}
 use Rattle.gh_bitmap.specs.SetPointers as bits
 use Rattle.gh_central.specs.GiveBack as give
 use Rattle.gh_alloc.specs.Place.{goes_at, listing}
-use Rattle.gh_alloc.specs.PlaceSound.{FitsSpanHead, IsStage}
-use Rattle.gh_alloc.proofs.Vocabulary.{Bits, filled, Layout, nat_tests, Placing, PlaceStage}
+use Rattle.gh_alloc.specs.PlaceSound.{IsStage}
 
 bits_kept : (l : Layout) (p : Placing) (s : bits.PointerSetting) (b : Bool) → is_none (bits.given s) ≡ b → (bits.listing l).sound s → IsStage l p.slot (cond b (Bits s) (filled p.marking))
 bits_kept l p s b e y = grind arith

@@ -1,9 +1,7 @@
 -- The search looks for unswept spans in each round but the one behind the freeing of empty spans.
 use Rattle.std.proofs.Common.{◌≡◌, ℕ, zero, suc, Bool, true, false, cond, Option, arith}
-use Rattle.gh_base.specs.Machines.{steps_of}
+use Rattle.gh_alloc.proofs.Vocabulary.{after_free, Finding, First, Free, frees_at, goes_at, Layout, listing, Reclaiming, reclaiming, SearchStage, Second, Seeking, steps_of, told}
 use Rattle.gh_alloc.specs.Find as find
-use Rattle.gh_alloc.specs.Search.{listing}
-use Rattle.gh_alloc.proofs.Vocabulary.{after_free, Finding, First, Free, frees_at, goes_at, Layout, Reclaiming, reclaiming, SearchStage, Second, Seeking, told}
 
 abbrev pub looks_for_unswept : SearchStage → Bool
 looks_for_unswept Second = false

@@ -1,17 +1,10 @@
 -- The search where a collector runs has the lock at the stages that say so.
 use Rattle.std.proofs.Common.{◌≡◌, ℕ, zero, suc, Bool, true, false, cond, Option, refl, sym, ap, ◌∙◌, arith}
-use Rattle.gh_base.specs.Machines.{steps_of}
-use Rattle.gh_base.specs.Routines.{told}
-use Rattle.gh_central.specs.Reclaim.{Reclaiming}
+use Rattle.gh_alloc.proofs.Vocabulary.{after_free, asks_at, Finding, FindStage, First, Free, frees_at, goes_at, holds, Layout, listing, lock_after, Reclaiming, reclaiming, SearchStage, Second, Seeking, steps_of, told}
 use Rattle.gh_central.specs.Reclaim as reclaim
 use Rattle.gh_central.specs.declared.reclaim.ReclaimStage.{ReclaimStage}
-use Rattle.gh_alloc.specs.declared.search.SearchStage.{SearchStage}
-use Rattle.gh_alloc.specs.declared.search.SearchStage.TheVariants.{First, Free, Second}
-use Rattle.gh_alloc.specs.Vocabulary.{FindStage, Layout}
-use Rattle.gh_alloc.specs.Find.{Finding}
 use Rattle.gh_alloc.specs.Find as find
-use Rattle.gh_alloc.specs.Locking.{holds, lock_after}
-use Rattle.gh_alloc.specs.Search.{Seeking, after_free, asks, asks_at, frees_at, goes_at, listing, reclaiming}
+use Rattle.gh_alloc.specs.Search.{asks}
 use Rattle.gh_alloc.proofs.Finding.Locking.{has_lock}
 use Rattle.gh_alloc.proofs.Finding.Locking as finding
 

@@ -1,10 +1,7 @@
 -- A routine that a search runs, from its first step on.
 use Rattle.std.proofs.Common.{◌≡◌, ℕ, suc, ◌+◌, ◌<◌, ◌≤◌, true, inl, inr, Some, sym, ap, subst, ◌∙◌, arith}
-use Rattle.std.proofs.lemmas.Bool.{cases_order}
-use Rattle.gh_base.specs.declared.cell.Ask.{Ask}
-use Rattle.gh_base.specs.Routines.{Listing, told}
+use Rattle.gh_alloc.proofs.Vocabulary.{Ask, cases_order, Listing, Runs, told}
 use Rattle.gh_alloc.specs.Refusing.{since}
-use Rattle.gh_alloc.specs.Rounds.{Runs}
 
 module _ (asks : ℕ → Ask) (found : ℕ → ℕ) {M Out : Type 0} (r : Listing M Out) (m : M) where
   abbrev At : (first n : ℕ) → M

@@ -1,13 +1,9 @@
 -- The search where a collector runs gives what the search gives that it runs, and nothing while it frees empty spans.
 use Rattle.std.proofs.Common.{◌≡◌, ℕ, IsTrue, Bool, cond, Option, Some, None, sym, ◌∙◌, arith}
-use Rattle.gh_central.specs.Reclaim.{Reclaiming}
+use Rattle.gh_alloc.proofs.Vocabulary.{after_first, after_free, Finding, First, Free, frees_at, given_at, goes_at, Layout, NoRoom, Reclaiming, SearchStage, Second}
 use Rattle.gh_central.specs.Reclaim as reclaim
-use Rattle.gh_alloc.specs.declared.search.SearchStage.{SearchStage}
-use Rattle.gh_alloc.specs.declared.search.SearchStage.TheVariants.{First, Free, Second}
-use Rattle.gh_alloc.specs.Vocabulary.{Layout, NoRoom}
-use Rattle.gh_alloc.specs.Find.{Finding, spans_for}
 use Rattle.gh_alloc.specs.Find as find
-use Rattle.gh_alloc.specs.Search.{after_first, after_free, frees_at, given, given_at, goes_at, refuses_at}
+use Rattle.gh_alloc.specs.Search.{given, refuses_at}
 use Rattle.gh_alloc.proofs.Finding.Refusing.{giver_refuses}
 
 pub first_gives : (g : Finding) → given_at g (after_first g) ≡ find.given g

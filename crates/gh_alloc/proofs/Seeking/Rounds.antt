@@ -1,10 +1,6 @@
 -- The search where a collector runs says that there is no room only where it has found none twice, and freed empty spans between.
 use Rattle.std.proofs.Common.{◌≡◌, ℕ, zero, suc, ◌+◌, ◌<◌, ◌≤◌, ◌⊎◌, inl, inr, Bool, true, false, cond, nat_eq, Option, Some, None, is_none, refl, sym, ap, subst, ◌∙◌, arith, eqb-true}
-use Rattle.std.proofs.lemmas.Bool.{cases_order}
-use Rattle.gh_base.specs.declared.cell.Ask.{Ask}
-use Rattle.gh_base.specs.declared.cell.Ask.TheVariants.{Store, Swap}
-use Rattle.gh_base.specs.declared.cell.Cell.TheVariants as cell
-use Rattle.gh_base.specs.Machines.{steps_of}
+use Rattle.gh_alloc.proofs.Vocabulary.{after_carve, after_first, after_free, after_pass, after_unswept, Again, again, Ask, asks_at, At, at_stage, Base, base, behind_for, CachedSpan, Carve, carving, cases_order, Cell, End, Ended, EndsWith, Finding, finds_none_at, FindsNoneFirst, FindStage, First, FollowsLock, Free, frees_at, FreesSpans, Give, given_head, GivesBack, goes_at, goes_base, GoesOn, HasFoundNoneTwice, head_word, holds, Large, Layout, listing, Lock, locked_for, NoRoom, Pass, Passed, Reclaiming, reclaiming, refuses_at, Runs, search_base, searched, SearchStage, Second, Seeking, Slots, Small, Sought, span_for, SpanClass, spans_for, steps_of, Store, Swap, Swept, taken_for, told, Unlock, unlocked, Unswept}
 use Rattle.gh_cache.specs.Listing as slots
 use Rattle.gh_central.specs.GiveBack as give
 use Rattle.gh_central.specs.declared.give.GiveStage.TheVariants.{Write}
@@ -13,13 +9,11 @@ use Rattle.gh_central.specs.SweptPass as pass
 use Rattle.gh_central.specs.UnsweptPass as unswept
 use Rattle.gh_pages.specs.Listing as carve
 use Rattle.gh_alloc.specs.Find as find
-use Rattle.gh_alloc.specs.Rounds.{FindsNoneFirst, FindsNone, Follows as FollowsLock, FreesSpans, GivesBack, HasFoundNoneTwice, Passed, Runs, Swept}
-use Rattle.gh_alloc.specs.Search.{asks, listing, opening}
-use Rattle.gh_alloc.proofs.Vocabulary.{after_carve, after_first, after_free, after_pass, after_unswept, Again, again, asks_at, At, at_stage, behind_for, CachedSpan, Carve, carving, End, Ended, EndsWith, Finding, finds_none_at, FindStage, First, Free, frees_at, Give, given_head, goes_at, GoesOn, head_word, holds, Large, Layout, Lock, locked_for, NoRoom, Pass, Reclaiming, reclaiming, refuses_at, searched, SearchStage, Second, Seeking, Slots, Small, Sought, span_for, SpanClass, spans_for, taken_for, told, Unlock, unlocked, Unswept}
+use Rattle.gh_alloc.specs.Rounds.{FindsNone}
+use Rattle.gh_alloc.specs.Search.{asks, opening}
 use Rattle.gh_alloc.proofs.Finding.Locking.{has_lock}
 use Rattle.gh_alloc.proofs.Finding.Locking as finding
 use Rattle.gh_alloc.specs.Search as search
-use Rattle.gh_alloc.specs.Stays.{Base, base, goes_base, search_base}
 use Rattle.gh_alloc.proofs.Seeking.Firsts.{looks_for_unswept, sweeps_at}
 use Rattle.gh_alloc.proofs.Seeking.Locking.{has_lock_at, held_is}
 use Rattle.gh_alloc.proofs.Seeking.Parts.{Running, begins, ends_with, goes_on}
@@ -32,7 +26,7 @@ without_none p h = grind arith
 refuses_yet : (p : FindStage) → refuses_at p ≡ true → find.is_busy p ≡ true → finds_none_at p ≡ true
 refuses_yet p h busy = grind arith
 
-refusing_asks : (layout : Layout) (f : Finding) (p : FindStage) → finds_none_at p ≡ true → find.asks_at layout f p ≡ Store cell.Lock 0
+refusing_asks : (layout : Layout) (f : Finding) (p : FindStage) → finds_none_at p ≡ true → find.asks_at layout f p ≡ Store Cell.Lock 0
 refusing_asks layout f p h = grind arith
 
 module _ (layout : Layout) (s : Seeking) (found : ℕ → ℕ) where
@@ -208,7 +202,7 @@ module _ (layout : Layout) (s : Seeking) (found : ℕ → ℕ) where
     class : SpanClass
     small : s.find.wanted ≡ Small class
     page : ℕ
-    store : give.asks x ≡ Store (cell.Page page) (head_word (given_head s.find.generation class))
+    store : give.asks x ≡ Store (Cell.Page page) (head_word (given_head s.find.generation class))
 
   -- the first round has ended
   record FoundNone (lock : ℕ) : Type 0 where
@@ -247,7 +241,7 @@ module _ (layout : Layout) (s : Seeking) (found : ℕ → ℕ) where
 
   record Locked (n : ℕ) : Type 0 where
     lock : ℕ
-    takes : asked lock ≡ Swap cell.Lock 0 (s.find.seat + 1)
+    takes : asked lock ≡ Swap Cell.Lock 0 (s.find.seat + 1)
     free : found lock ≡ 0
     held : (k : ℕ) → lock < k → k ≤ n → holds (steps_of layout (listing layout)) s found k ≡ true
     known : WithLock lock n (now n).find.stage (now n).stage
@@ -302,7 +296,7 @@ module _ (layout : Layout) (s : Seeking) (found : ℕ → ℕ) where
 
   module _ (start : has_lock_at s.find.stage s.stage ≡ false) (anew : s.find.sweeps ≡ looks_for_unswept s.stage) where
     -- it has the lock then, and had it since
-    locks : (n lock : ℕ) → asked lock ≡ Swap cell.Lock 0 (s.find.seat + 1) → found lock ≡ 0 → ((k : ℕ) → lock < k → k ≤ n → holds (steps_of layout (listing layout)) s found k ≡ true) → (z : Seeking) → now (suc n) ≡ z → WithLock lock (suc n) z.find.stage z.stage → Tracks (suc n)
+    locks : (n lock : ℕ) → asked lock ≡ Swap Cell.Lock 0 (s.find.seat + 1) → found lock ≡ 0 → ((k : ℕ) → lock < k → k ≤ n → holds (steps_of layout (listing layout)) s found k ≡ true) → (z : Seeking) → now (suc n) ≡ z → WithLock lock (suc n) z.find.stage z.stage → Tracks (suc n)
     locks n lock takes free held z e k = inr (record { lock = lock; takes = takes; free = free; held = still; known = known }) where
       known : WithLock lock (suc n) (now (suc n)).find.stage (now (suc n)).stage
       known = subst (λ (y : Seeking). WithLock lock (suc n) y.find.stage y.stage) (sym e) k
@@ -333,13 +327,13 @@ module _ (layout : Layout) (s : Seeking) (found : ℕ → ℕ) where
         class = c;
         small = sym (wanted_is (now n).find (base_is n)) ∙ is;
         page = x.head;
-        store = ap (λ (b : Base). Store (cell.Page x.head) (head_word (given_head b.generation c))) (base_is n);
+        store = ap (λ (b : Base). Store (Cell.Page x.head) (head_word (given_head b.generation c))) (base_is n);
       }
       locked (Small c) None is = begins_round (Small c) is
       locked (Large pages noscan) x is = begins_round (Large pages noscan) is
 
       by : (b : Bool) → nat_eq (found n) 0 ≡ b → Tracks (suc n)
-      by true is = locks n n (first_asks n Lock e at ∙ ap (λ (b : Base). Swap cell.Lock 0 (b.seat + 1)) (base_is n)) (eqb-true (found n) 0 is) (λ k low le. absurd (omega arith)) (lock_to n (locked_for (now n).find (now n).find.wanted (now n).find.cached)) (next true is) (locked (now n).find.wanted (now n).find.cached refl)
+      by true is = locks n n (first_asks n Lock e at ∙ ap (λ (b : Base). Swap Cell.Lock 0 (b.seat + 1)) (base_is n)) (eqb-true (found n) 0 is) (λ k low le. absurd (omega arith)) (lock_to n (locked_for (now n).find (now n).find.wanted (now n).find.cached)) (next true is) (locked (now n).find.wanted (now n).find.cached refl)
       by false is = unlocks_first n (at_stage (now n).find Lock) (next false is) refl
 
     without_step : (n : ℕ) (p : FindStage) → (now n).stage ≡ First → (now n).find.stage ≡ p → has_lock p ≡ false → Tracks (suc n)
@@ -420,7 +414,7 @@ module _ (layout : Layout) (s : Seeking) (found : ℕ → ℕ) where
     abbrev Refuses : ℕ → Type 0
     Refuses n = HasFoundNoneTwice s found layout s.find.seat s.find.generation s.find.wanted n
 
-    ended_twice : (n : ℕ) (t : Locked n) → asked n ≡ Store cell.Lock 0 → RoundEnds (HasFreed t.lock) false n → Refuses n
+    ended_twice : (n : ℕ) (t : Locked n) → asked n ≡ Store Cell.Lock 0 → RoundEnds (HasFreed t.lock) false n → Refuses n
     ended_twice n t a k = record {
       lock = t.lock;
       takes = t.takes;

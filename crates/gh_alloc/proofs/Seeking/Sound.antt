@@ -1,13 +1,11 @@
 -- The search where a collector runs keeps its numbers in their limits, and each of its steps lies in the heap: by its stages.
 use Rattle.std.proofs.Common.{◌≡◌, ℕ, ◌^◌, ◌<◌, Bool, cond, Option, refl, arith}
-use Rattle.gh_base.specs.Machines.{IsBusy, IsRoutine}
+use Rattle.gh_alloc.proofs.Vocabulary.{after_free, Finding, First, Free, frees_at, goes_at, IsBusy, IsRoutine, Layout, listing, Reclaiming, reclaiming, SearchStage, Second}
 use Rattle.gh_central.specs.Reclaim as reclaim
 use Rattle.gh_alloc.specs.Find as find
 use Rattle.gh_alloc.specs.FindSound as find_sound
-use Rattle.gh_alloc.specs.Search.{goes_at, listing}
 use Rattle.gh_alloc.specs.SearchSound.{IsStage, Sound}
 use Rattle.gh_alloc.proofs.Finding.Sound.{PagesAreFew, spans_open}
-use Rattle.gh_alloc.proofs.Vocabulary.{after_free, Finding, First, Free, frees_at, Layout, Reclaiming, reclaiming, SearchStage, Second}
 
 module _ (l : Layout) (f : Finding) (x : find_sound.Sound l f) where
   first_kept : (b : Bool) → Sound l (record { find = f; stage = cond b (Free (reclaiming f)) First })

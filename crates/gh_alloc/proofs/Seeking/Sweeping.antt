@@ -1,5 +1,6 @@
 -- The search runs the sweeps of its passes on until they have ended, and begins one where a pass does.
 use Rattle.std.proofs.Common.{◌≡◌, ℕ, Bool, true, cond, eqb, Option, Some, None, refl, sym, ◌∙◌, arith}
+use Rattle.gh_alloc.proofs.Vocabulary.{After, after_carve, after_first, after_free, after_give, after_pass, after_slots, at_stage, Carve, Ended, Finding, FindStage, First, Free, frees_at, Give, goes_at, is_busy, Layout, Lock, locked_for, Pass, Reclaiming, searched, SearchStage, Second, Slots, sweep_at, Sweeping, Unlock, unlocked, Unswept}
 use Rattle.gh_cache.specs.Listing as slots
 use Rattle.gh_central.specs.GiveBack as give
 use Rattle.gh_central.specs.Reclaim as reclaim
@@ -7,11 +8,8 @@ use Rattle.gh_central.specs.SweptPass as pass
 use Rattle.gh_central.specs.Sweeping.{BeginsSweep, RunsSweeps, SweepsOn}
 use Rattle.gh_central.specs.UnsweptPass as unswept
 use Rattle.gh_pages.specs.Listing as carve
-use Rattle.gh_sweep.specs.Listing.{is_busy, Sweeping}
 use Rattle.gh_alloc.specs.Find as find
 use Rattle.gh_alloc.specs.Search as search
-use Rattle.gh_alloc.specs.Vocabulary.{After, Layout}
-use Rattle.gh_alloc.proofs.Vocabulary.{after_carve, after_first, after_free, after_give, after_pass, after_slots, at_stage, Carve, Ended, Finding, FindStage, First, Free, frees_at, Give, goes_at, Lock, locked_for, Pass, Reclaiming, searched, SearchStage, Second, Slots, sweep_at, Unlock, unlocked, Unswept}
 
 none-some : {x : Option Sweeping} {sw : Sweeping} → x ≡ None → x ≡ Some sw → ⊥
 none-some none some = cc

@@ -1,13 +1,7 @@
 -- The bit that is read is the bitmap's.
 use Rattle.std.proofs.Common.{◌≡◌, ℕ, ◌*◌, ◌/◌, ◌%◌, ◌<◌, ◌==◌, Some, ap, arith}
-use Rattle.std.proofs.Math.Nat.{mod-eq_of_lt}
-use Rattle.gh_base.specs.declared.cell.Cell.TheVariants.{Bitmap}
+use Rattle.gh_bitmap.proofs.Vocabulary.{bit_at, Bitmap, Layout, mod-eq_of_lt, ReadsBit, row_bit, Words}
 use Rattle.gh_base.specs.declared.cell.Ask.TheVariants.{Load}
-use Rattle.gh_base.specs.declared.layout.Layout.{Layout}
-use Rattle.gh_base.specs.Cells.{Words}
-use Rattle.gh_base.specs.Rows.{row_bit}
-use Rattle.std.specs.Int.{bit_at}
-use Rattle.gh_bitmap.specs.Pointers.{ReadsBit}
 
 word_is : (l : Layout) (at : ℕ) → at < 1024 * l.pages → at / 64 % (16 * l.pages) ≡ at / 64
 word_is l at inside = mod-eq_of_lt (omega arith)

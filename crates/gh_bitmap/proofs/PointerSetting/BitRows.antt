@@ -1,17 +1,9 @@
 -- The bits of a slot and of a shape in a word of the bitmap, and what a row is once they are written.
-use Rattle.std.proofs.Common.{◌≡◌, ◌≢◌, ℕ, ◌+◌, ◌*◌, ◌/◌, ◌%◌, ◌-◌, ◌^◌, ◌<◌, ◌≤◌, ◌⊎◌, Bool, true, false, cond, eqb, ltb, refl, sym, ap, subst, ◌∙◌, arith, inl, inr, lit<}
-use Rattle.std.specs.Prelude.{bit_or, bit_and, min, max}
-use Rattle.std.specs.Int.{bit_at, w64}
+use Rattle.std.proofs.Common.{◌≡◌, ◌≢◌, ℕ, ◌+◌, ◌*◌, ◌/◌, ◌%◌, ◌-◌, ◌^◌, ◌<◌, ◌≤◌, ◌⊎◌, Bool, true, false, cond, eqb, ltb, refl, sym, ap, subst, ◌∙◌, arith, inl, inr, lit<, bit_or, bit_and, min, max}
 use Rattle.std.proofs.lemmas.Nat.Bits.{bit_at_or, bit_at_and, bit_at_not, bit_at-lt, bit_at_mask_inside, bit_at_mask_below, bit_at_mask_above, bit_at_cat_low, bit_at_cat_high, bit_at-zero}
-use Rattle.std.proofs.Math.Nat.{div-add-mod, div-lt_iff_lt-mul, mul-div_left, pow-le-pow_right, div-div-eq-div-mul, mul-mod_left}
-use Rattle.std.proofs.lemmas.Nat.{pow_pos, mod-pow-add, pow-add}
+use Rattle.std.proofs.lemmas.Nat.{pow_pos, pow-add}
 use Rattle.std.proofs.lemmas.Bool.{eqb-true, ltb-true, ltb-false, lt-ltb}
-use Rattle.std.proofs.lemmas.Bool.Decides.{nat_tests}
-use Rattle.gh_base.specs.declared.shape.Shape.{Shape}
-use Rattle.gh_base.specs.Shapes.{bits_at, is_pointer}
-use Rattle.gh_base.specs.Packing.{bit}
-use Rattle.gh_base.specs.Rows.{Row, row_bit, RowsAreWritten, with_word}
-use Rattle.gh_bitmap.specs.Bits.{pointer_bits, slot_bits}
+use Rattle.gh_bitmap.proofs.Vocabulary.{bit, bit_at, bits_at, div-add-mod, div-div-eq-div-mul, div-lt_iff_lt-mul, is_pointer, mod-pow-add, mul-div_left, mul-mod_left, nat_tests, pointer_bits, pow-le-pow_right, Row, row_bit, RowsAreWritten, Shape, slot_bits, w64, with_word}
 
 -- The pointer bits of a shape, moved to where the object stands.
 

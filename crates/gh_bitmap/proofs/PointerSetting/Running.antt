@@ -1,12 +1,7 @@
 -- The routine that sets pointer bits, run to its end: word after word of the bitmap.
 use Rattle.std.proofs.Common.{◌≡◌, ◌≢◌, ℕ, zero, suc, ◌+◌, ◌-◌, ◌*◌, ◌/◌, ◌<◌, ◌≤◌, ◌⊎◌, Bool, true, false, is_none, cond, eqb, ltb, refl, sym, ap, subst, ◌∙◌, arith, inl, inr, eqb-true, ltb-true, ltb-false}
-use Rattle.gh_base.specs.declared.cell.Cell.{Cell}
-use Rattle.gh_base.specs.declared.cell.Cell.TheVariants.{Bitmap}
-use Rattle.gh_base.specs.declared.shape.Shape.{Shape}
-use Rattle.gh_base.specs.Machines.{steps_of}
+use Rattle.gh_bitmap.proofs.Vocabulary.{AreSet, asks_at, bit, Bitmap, Cell, CellsAreTold, Clear, effect, Ended, FitsSlot, given, is_pointer, IsHere, Layout, listing, next_stage, opening, pointer_bit, pointer_bits, PointerSetting, RowsAreWritten, Set, SetStage, Shape, steps_of, StepsOn, Touches, word_at, Words}
 use Rattle.gh_base.specs.Routines.{Alone, alone, IsFolded, Leaves, steps_alone}
-use Rattle.gh_bitmap.specs.Pointers.{AreSet}
-use Rattle.gh_bitmap.proofs.Vocabulary.{asks_at, bit, CellsAreTold, Clear, effect, Ended, FitsSlot, given, is_pointer, IsHere, Layout, listing, next_stage, opening, pointer_bit, pointer_bits, PointerSetting, RowsAreWritten, Set, SetStage, StepsOn, Touches, word_at, Words}
 use Rattle.gh_bitmap.proofs.PointerSetting.Steps.{steps_on, word_is}
 
 -- a word that has bits of the slot has that of one of its words

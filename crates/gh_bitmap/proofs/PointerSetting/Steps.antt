@@ -1,16 +1,6 @@
 -- What single steps do to the bits of the bitmap, and to its words.
-use Rattle.std.proofs.Common.{◌≡◌, ◌≢◌, ℕ, ◌+◌, ◌-◌, ◌*◌, ◌/◌, ◌^◌, ◌<◌, ◌≤◌, ◌⊎◌, Bool, false, sym, subst, arith, inl, inr}
-use Rattle.std.specs.Prelude.{bit_or, bit_and}
-use Rattle.std.proofs.Math.Nat.{mod-eq_of_lt}
-use Rattle.gh_base.specs.Cells.{Words}
-use Rattle.gh_base.specs.declared.layout.Layout.{Layout}
-use Rattle.gh_base.specs.Packing.{bit}
-use Rattle.gh_base.specs.Rows.{bitmap_words, Row, row_bit, RowsAreWritten, with_word}
-use Rattle.gh_base.specs.Shapes.{is_pointer}
-use Rattle.gh_bitmap.specs.Bits.{pointer_bits, slot_bits}
-use Rattle.gh_bitmap.specs.SetPointers.{PointerSetting, word_at}
-use Rattle.gh_bitmap.specs.Sound.{Touches}
-use Rattle.gh_bitmap.specs.Stepping.{ClearsBits, FitsSlot, HasNone, IsHere, SetsBits, StepsOn}
+use Rattle.std.proofs.Common.{◌≡◌, ◌≢◌, ℕ, ◌+◌, ◌-◌, ◌*◌, ◌/◌, ◌^◌, ◌<◌, ◌≤◌, ◌⊎◌, Bool, false, sym, subst, arith, inl, inr, bit_or, bit_and}
+use Rattle.gh_bitmap.proofs.Vocabulary.{bit, bitmap_words, ClearsBits, FitsSlot, HasNone, is_pointer, IsHere, Layout, mod-eq_of_lt, pointer_bits, PointerSetting, Row, row_bit, RowsAreWritten, SetsBits, slot_bits, StepsOn, Touches, with_word, word_at, Words}
 use Rattle.gh_bitmap.proofs.PointerSetting.BitRows.{clear_slot, clear_slot_other, no_pointers, set_pointers, set_pointers_other}
 
 -- a word that has bits of a slot in the arena is one of the row's

@@ -1,15 +1,10 @@
 -- The pass takes the first span that it may take.
 use Rattle.std.proofs.Common.{◌≡◌, ◌≢◌, ℕ, zero, suc, ◌+◌, ◌*◌, ◌<◌, ◌≤◌, ◌⊎◌, inl, inr, Bool, true, false, cond, ltb, Option, Some, None, is_none, refl, sym, ap, subst, ◌∙◌, arith}
-use Rattle.gh_base.specs.declared.cell.Cell.TheVariants.{Page, Alloc}
-use Rattle.gh_base.specs.declared.cell.Ask.{Ask}
-use Rattle.gh_base.specs.declared.cell.Ask.TheVariants.{Load}
-use Rattle.gh_base.specs.declared.pack.PageWord.TheVariants.{Free, Head, Body}
-use Rattle.gh_base.specs.declared.layout.Layout.{Layout}
-use Rattle.gh_base.specs.Machines.{steps_of}
+use Rattle.std.proofs.lemmas.Bool.{cases_order}
+use Rattle.gh_central.proofs.Vocabulary.{after_page, Alloc, alloc_word, Ask, asks, asks_at, at_stage, Bits, cases_lt, Ended, found_at, Free, given, given_at, goes, goes_at, Head, head_word, is_wanted, lacks_at, Layout, listing, Load, Look, look_from, nat_tests, owned_by, Page, page_of, pages_gone, PageWord, Pass, PassStage, slot_words_of, slots_of, SpanHead, steps_of, Store, take_from}
+use Rattle.gh_base.specs.declared.pack.PageWord.TheVariants.{Body}
 use Rattle.gh_base.specs.Routines.{EndsWith, GoesOn}
-use Rattle.gh_central.specs.declared.pass.PassStage.TheVariants.{Bits, Ended, Look, Take}
 use Rattle.gh_central.specs.Passing.{IsBits, IsFull, IsHead, IsMet, IsWanted, LacksAt, Passes, StepWasTold, Takes, TakesTheFirst, told}
-use Rattle.gh_central.proofs.Vocabulary.{after_page, alloc_word, asks, at_stage, cases_lt, cases_order, given, given_at, goes, goes_at, is_wanted, lacks_at, listing, look_from, nat_tests, page_of, pages_gone, PageWord, Pass, PassStage, slot_words_of, slots_of, SpanHead}
 use Rattle.gh_central.proofs.Lacking.{lacks_is, lacks_means}
 use Rattle.gh_central.proofs.Passing.Walking.{some_gone, some_pages}
 
@@ -93,12 +88,17 @@ module _ (layout : Layout) (m : Pass) (found : ℕ → ℕ) where
     first : Passes layout m found n page
     last : (other v : ℕ) → Told n (Load (Page other)) v → other ≤ page
 
+  -- of every stage at which it has found a span the same is known
+  abbrev HasFound : ℕ → Option (ℕ × SpanHead) → Type 0
+  HasFound n (Some span) = Lacks n span.0 span.1
+  HasFound n None = ⊥
+
   abbrev Arrives : ℕ → PassStage → Type 0
   Arrives n (Look page) = Looks n page
   Arrives n (Bits page h i) = Checks n page h i
-  Arrives n (Take page h) = Lacks n page h
   Arrives n (Ended None) = Passes layout m found n layout.pages
   Arrives n (Ended (Some page)) = ⊥
+  Arrives n p = HasFound n (found_at p)
 
   from_arrives : (n page : ℕ) → Passes layout m found n page → Below n page → Arrives n (look_from layout page)
   from_arrives n page p b = go (ltb page layout.pages) refl where
@@ -255,10 +255,45 @@ module _ (layout : Layout) (m : Pass) (found : ℕ → ℕ) where
       none : lacks_at m page i (found n) ≡ false → ¬ LacksAt m page i (found n)
       none e l = let f = lacks_by m page i (found n) l in absurd (cc)
 
-      go : (b further : Bool) → lacks_at m page i (found n) ≡ b → ltb (i + 1) (16 * h.pages) ≡ further → Arrives (suc n) (cond b (Take page h) (cond further (Bits page h (i + 1)) (look_from layout (page + h.pages))))
+      go : (b further : Bool) → lacks_at m page i (found n) ≡ b → ltb (i + 1) (16 * h.pages) ≡ further → Arrives (suc n) (cond b (take_from page h) (cond further (Bits page h (i + 1)) (look_from layout (page + h.pages))))
       go true further e f = takes (by_lacks m page i (found n) e)
       go false true e f = goes_on (none e) (grind (arith, nat_tests))
       go false false e f = goes_behind (λ j low. full_to (none e) j (let last : 16 * h.pages ≤ i + 1 = grind (arith, nat_tests) in omega arith))
+
+  -- Step n is made where a span was found: it loads no page word but that of the span, and behind it the span is still to be taken, or it is taken.
+
+  found_asks : (p : PassStage) (span : ℕ × SpanHead) (other : ℕ) → found_at p ≡ Some span → asks_at layout m p ≡ Load (Page other) → other ≡ span.0
+  found_asks p span other f a = grind arith
+
+  found_goes : (p : PassStage) (span : ℕ × SpanHead) (word : ℕ) → found_at p ≡ Some span → given_at (goes_at layout m p word) ≡ None → found_at (goes_at layout m p word) ≡ Some span
+  found_goes p span word f g = grind arith
+
+  found_gives : (p : PassStage) (span : ℕ × SpanHead) (word : ℕ) (out : Option ℕ) → found_at p ≡ Some span → given_at (goes_at layout m p word) ≡ Some out → out ≡ Some span.0
+  found_gives p span word out f g = grind arith
+
+  found_stores : (p : PassStage) (span : ℕ × SpanHead) (word : ℕ) (out : Option ℕ) → found_at p ≡ Some span → given_at (goes_at layout m p word) ≡ Some out → asks_at layout m p ≡ Store (Page span.0) (head_word (owned_by (m.seat + 1) span.1))
+  found_stores p span word out f g = grind arith
+
+  module _ (n : ℕ) (p : PassStage) (span : ℕ × SpanHead) (f : found_at p ≡ Some span) (e : told layout m found n ≡ at_stage m p) (k : Lacks n span.0 span.1) where
+    its_page : (other : ℕ) → Asks n (Load (Page other)) → other ≡ span.0
+    its_page other a = found_asks p span other f (sym (ap (asks layout) e) ∙ a)
+
+    found_still : Lacks (suc n) span.0 span.1
+    found_still = record {
+      stands = (k.stands.0, more n _ k.stands.0 k.stands.1, k.stands.2);
+      wanted = k.wanted;
+      lacks = (k.lacks.0, k.lacks.1, k.lacks.2, more n _ k.lacks.1 k.lacks.3, k.lacks.4);
+      first = passes_more n span.0 k.first (λ page low a. let same = its_page page a in absurd (omega arith));
+      last = λ other v t. elim (by_last n (Load (Page other)) v t) [
+        | inl here ↦ let same = its_page other here.0 in omega arith
+        | inr before ↦ k.last other v before
+      ];
+    }
+
+    found_takes : (word page : ℕ) → given_at (goes_at layout m p word) ≡ Some (Some page) → Takes layout m found n page
+    found_takes word page g =
+        let same : span.0 ≡ page = let out = found_gives p span word (Some page) f g in cc in
+        subst (Takes layout m found n) same (record { head = span.1; stands = k.stands; wanted = k.wanted; lacks = k.lacks; first = k.first; last = k.last; store = ap (asks layout) e ∙ found_stores p span word (Some page) f g })
 
   -- The stage after any number of steps.
 
@@ -266,7 +301,7 @@ module _ (layout : Layout) (m : Pass) (found : ℕ → ℕ) where
   IsAt n (Ended taken) = Unit {0}
   IsAt n (Look page) = Looks n page
   IsAt n (Bits page h i) = Checks n page h i
-  IsAt n (Take page h) = Lacks n page h
+  IsAt n p = HasFound n (found_at p)
 
   arrived : (n : ℕ) (p : PassStage) → Arrives n p → IsAt n p
   arrived n p k = grind arith
@@ -277,11 +312,21 @@ module _ (layout : Layout) (m : Pass) (found : ℕ → ℕ) where
   goes_now : (n : ℕ) (p : PassStage) → told layout m found n ≡ at_stage m p → told layout m found (suc n) ≡ at_stage m (goes_at layout m p (found n))
   goes_now n p e = ap (λ (x : Pass). goes layout x (found n)) e
 
+  found_arrives : (n : ℕ) (q : PassStage) (span : ℕ × SpanHead) → (given_at q ≡ None → found_at q ≡ Some span) → Lacks n span.0 span.1 → IsAt n q
+  found_arrives n (Ended taken) span f k = tt
+  found_arrives n (Look page) span f k = let e = f refl in absurd (cc)
+  found_arrives n (Bits page h i) span f k = let e = f refl in absurd (cc)
+  found_arrives n p span f k = subst (HasFound n) (sym (f refl)) k
+
+  behind : (n : ℕ) (p : PassStage) (has : Option (ℕ × SpanHead)) → found_at p ≡ has → told layout m found n ≡ at_stage m p → HasFound n has → IsAt (suc n) (goes_at layout m p (found n))
+  behind n p (Some span) f e k = found_arrives (suc n) (goes_at layout m p (found n)) span (found_goes p span (found n) f) (found_still n p span f e k)
+  behind n p None f e k = absurd k
+
   next : (n : ℕ) → Stands n → Stands (suc n)
   next n (Look page, e, k) = (goes_at layout m (Look page) (found n), goes_now n (Look page) e, arrived (suc n) (goes_at layout m (Look page) (found n)) (look_arrives n page (ap (asks layout) e) k))
   next n (Bits page h i, e, k) = (goes_at layout m (Bits page h i) (found n), goes_now n (Bits page h i) e, arrived (suc n) (goes_at layout m (Bits page h i) (found n)) (bits_arrives n page h i (ap (asks layout) e) k))
-  next n (Take page h, e, k) = (Ended (Some page), goes_now n (Take page h) e, tt)
   next n (Ended taken, e, k) = (Ended taken, goes_now n (Ended taken) e, tt)
+  next n (p, e, k) = (goes_at layout m p (found n), goes_now n p e, behind n p (found_at p) refl e k)
 
   none_told : (ask : Ask) (word : ℕ) → ¬ Told 0 ask word
   none_told ask word t = absurd (let low = t.1 in omega arith)
@@ -307,19 +352,25 @@ module _ (layout : Layout) (m : Pass) (found : ℕ → ℕ) where
   gives_at : (n : ℕ) (p : PassStage) (out : Option ℕ) → told layout m found n ≡ at_stage m p → EndsWith (steps_of layout (listing layout)) m found n out → given (goes layout (at_stage m p) (found n)) ≡ Some out
   gives_at n p out e g = sym (ap (λ (x : Pass). given (goes layout x (found n))) e) ∙ g
 
+  takes_found : (n : ℕ) (p : PassStage) (page : ℕ) (has : Option (ℕ × SpanHead)) → found_at p ≡ has → told layout m found n ≡ at_stage m p → HasFound n has → given_at (goes_at layout m p (found n)) ≡ Some (Some page) → Takes layout m found n page
+  takes_found n p page (Some span) f e k g = found_takes n p span f e k (found n) page g
+  takes_found n p page None f e k g = absurd k
+
   some_takes : (n page : ℕ) → Stands n → GoesOn (steps_of layout (listing layout)) m found n → EndsWith (steps_of layout (listing layout)) m found n (Some page) → Takes layout m found n page
   some_takes n page (Look q, e, k) busy g = absurd (no_page_given (suc n) (goes_at layout m (Look q) (found n)) page (look_arrives n q (ap (asks layout) e) k) (gives_at n (Look q) (Some page) e g))
   some_takes n page (Bits q h i, e, k) busy g = absurd (no_page_given (suc n) (goes_at layout m (Bits q h i) (found n)) page (bits_arrives n q h i (ap (asks layout) e) k) (gives_at n (Bits q h i) (Some page) e g))
-  some_takes n page (Take q h, e, k) busy g =
-      let same : q ≡ page = let f = gives_at n (Take q h) (Some page) e g in cc in
-      subst (Takes layout m found n) same (record { head = h; stands = k.stands; wanted = k.wanted; lacks = k.lacks; first = k.first; last = k.last; store = ap (asks layout) e })
   some_takes n page (Ended taken, e, k) busy g = absurd (over n taken e busy)
+  some_takes n page (p, e, k) busy g = takes_found n p page (found_at p) refl e k (gives_at n p (Some page) e g)
+
+  gives_found : (n : ℕ) (p : PassStage) (has : Option (ℕ × SpanHead)) → found_at p ≡ has → HasFound n has → given_at (goes_at layout m p (found n)) ≡ Some None → Passes layout m found (suc n) layout.pages
+  gives_found n p (Some span) f k g = let out = found_gives p span (found n) None f g in absurd (cc)
+  gives_found n p None f k g = absurd k
 
   none_passes : (n : ℕ) → Stands n → GoesOn (steps_of layout (listing layout)) m found n → EndsWith (steps_of layout (listing layout)) m found n None → Passes layout m found (suc n) layout.pages
   none_passes n (Look q, e, k) busy g = none_given (suc n) (goes_at layout m (Look q) (found n)) (look_arrives n q (ap (asks layout) e) k) (gives_at n (Look q) None e g)
   none_passes n (Bits q h i, e, k) busy g = none_given (suc n) (goes_at layout m (Bits q h i) (found n)) (bits_arrives n q h i (ap (asks layout) e) k) (gives_at n (Bits q h i) None e g)
-  none_passes n (Take q h, e, k) busy g = let f = gives_at n (Take q h) None e g in absurd (cc)
   none_passes n (Ended taken, e, k) busy g = absurd (over n taken e busy)
+  none_passes n (p, e, k) busy g = gives_found n p (found_at p) refl k (gives_at n p None e g)
 
   pub takes_the_first : m ≡ at_stage m (Look 0) → (n : ℕ) → TakesTheFirst layout m found n
   takes_the_first opens n = record { some = λ page. some_takes n page (stands opens n); none = none_passes n (stands opens n) }

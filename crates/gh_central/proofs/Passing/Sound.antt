@@ -1,16 +1,6 @@
 -- The page that the pass is at stays one of the arena, and its steps lie in the heap.
-use Rattle.std.proofs.Common.{ℕ, ◌^◌, ◌<◌, arith}
-use Rattle.std.proofs.lemmas.Bool.Decides.{nat_tests}
-use Rattle.gh_base.specs.declared.layout.Layout.{Layout}
-use Rattle.gh_base.specs.Machines.{IsRoutine}
-use Rattle.gh_base.specs.Packing.{PackedWordsAreReadBack}
-use Rattle.gh_base.specs.declared.pack.SpanHead.{SpanHead}
-use Rattle.gh_base.specs.declared.pack.PageWord.{PageWord}
-use Rattle.gh_base.specs.Packing.{FitsHead, FitsPage, PackedWordsAreReadBack}
-use Rattle.std.proofs.Common.{ℕ, ◌^◌, ◌<◌, arith}
-use Rattle.gh_central.specs.declared.pass.PassStage.{PassStage}
-use Rattle.gh_central.specs.SweptPass.{IsStage, Pass, after_bits, after_page, goes_at, listing}
-use Rattle.gh_central.proofs.Vocabulary.{mod-lt}
+use Rattle.std.proofs.Common.{ℕ, ◌^◌, ◌<◌, arith, ℕ, ◌^◌, ◌<◌, arith}
+use Rattle.gh_central.proofs.Vocabulary.{after_bits, after_page, FitsHead, FitsPage, goes_at, IsRoutine, IsStage, Layout, listing, mod-lt, nat_tests, PackedWordsAreReadBack, PageWord, Pass, PassStage, SpanHead}
 
 module _ (l : Layout) (m : Pass) where
   page_kept : (page : ℕ) (w : PageWord) → page < l.pages → FitsPage w → IsStage l (after_page l m page w)

@@ -1,19 +1,10 @@
 -- The page that is looked at stays one of the arena, the sweep that is run stays sound, and each step lies in the heap.
 use Rattle.std.proofs.Common.{◌≡◌, ℕ, ◌^◌, ◌<◌, Option, refl, arith}
-use Rattle.std.proofs.lemmas.Bool.Decides.{nat_tests}
-use Rattle.gh_base.specs.declared.layout.Layout.{Layout}
-use Rattle.gh_base.specs.declared.pack.PageWord.{PageWord}
-use Rattle.gh_base.specs.Machines.{IsRoutine}
-use Rattle.gh_base.specs.Packing.{FitsPage, PackedWordsAreReadBack, page_of}
-use Rattle.gh_central.specs.declared.reclaim.ReclaimStage.{ReclaimStage}
-use Rattle.gh_central.specs.declared.reclaim.ReclaimStage.TheVariants.{Sweep, Wait}
-use Rattle.gh_central.specs.Reclaim.{Reclaiming, after_bits, after_page, after_sweep, after_wait, goes_at, listing}
+use Rattle.gh_central.proofs.Vocabulary.{after_sweep, after_wait, FitsPage, IsRoutine, Layout, mod-lt, nat_tests, PackedWordsAreReadBack, page_of, PageWord, Reclaiming, ReclaimStage, Sweep, SweepEnd, Sweeping, Wait}
+use Rattle.gh_central.specs.Reclaim.{after_bits, after_page, goes_at, listing}
 use Rattle.gh_central.specs.ReclaimSound.{CanBeASpan, IsStage}
-use Rattle.gh_sweep.specs.declared.sweep.SweepEnd.{SweepEnd}
 use Rattle.gh_sweep.specs.Listing as sweep
-use Rattle.gh_sweep.specs.Listing.{Sweeping}
 use Rattle.gh_sweep.specs.Sound as sweep_sound
-use Rattle.gh_central.proofs.Vocabulary.{mod-lt}
 
 page_kept : (l : Layout) (m : Reclaiming) (page : ℕ) (w : PageWord) → m.generation < 2 ^ 34 → page < l.pages → FitsPage w → IsStage l (after_page l m page w)
 page_kept l m page w generation here f = grind (arith, nat_tests)

@@ -1,21 +1,11 @@
 -- Each of the two passes that sweep runs a sweep on until it has ended, and begins one where it finds an unswept head.
 use Rattle.std.proofs.Common.{◌≡◌, ℕ, ◌+◌, Bool, true, false, cond, eqb, Some, None, refl, arith}
-use Rattle.gh_base.specs.declared.layout.Layout.{Layout}
-use Rattle.gh_base.specs.declared.pack.PageWord.{PageWord}
-use Rattle.gh_base.specs.declared.pack.PageWord.TheVariants as page
-use Rattle.gh_base.specs.Packing.{page_of}
-use Rattle.gh_central.specs.declared.reclaim.ReclaimStage.{ReclaimStage}
-use Rattle.gh_central.specs.declared.reclaim.ReclaimStage.TheVariants as reclaiming
-use Rattle.gh_central.specs.declared.unswept.UnsweptStage.{UnsweptStage}
-use Rattle.gh_central.specs.declared.unswept.UnsweptStage.TheVariants as passing
+use Rattle.gh_central.proofs.Vocabulary.{Layout, page_of, PageWord, Reclaiming, ReclaimStage, Sweeping, Unswept, UnsweptStage}
 use Rattle.gh_central.specs.Reclaim as reclaim
-use Rattle.gh_central.specs.Reclaim.{Reclaiming}
 use Rattle.gh_central.specs.Sweeping.{BeginsSweep, RunsSweeps, SweepsOn}
 use Rattle.gh_central.specs.UnsweptPass as pass
-use Rattle.gh_central.specs.UnsweptPass.{Unswept}
 use Rattle.gh_central.proofs.HeadTests.{unswept-is}
 use Rattle.gh_sweep.specs.Listing as sweep
-use Rattle.gh_sweep.specs.Listing.{Sweeping}
 
 -- The freeing of empty spans.
 
@@ -35,12 +25,12 @@ module _ (l : Layout) (m : Reclaiming) where
   abbrev Begins : ReclaimStage → ℕ → Sweeping → Type 0
   Begins q found sw = BeginsSweep m.generation (reclaim.asks_at l q) found sw
 
-  reclaim_looks : (p found : ℕ) (sw : Sweeping) (w : PageWord) → page_of found ≡ w → reclaim.sweep_at (reclaim.after_page l m p w) ≡ Some sw → Begins (reclaiming.Look p) found sw
-  reclaim_looks p found sw page.Free is e = absurd (cc (e, none_looked (p + 1)))
-  reclaim_looks p found sw (page.Body b) is e = absurd (cc (e, none_looked (p + 1)))
-  reclaim_looks p found sw (page.Head h) is e = go (eqb h.owner 0) (eqb h.number m.generation) (eqb (h.number + 2) m.generation) refl e where
+  reclaim_looks : (p found : ℕ) (sw : Sweeping) (w : PageWord) → page_of found ≡ w → reclaim.sweep_at (reclaim.after_page l m p w) ≡ Some sw → Begins (ReclaimStage.Look p) found sw
+  reclaim_looks p found sw PageWord.Free is e = absurd (cc (e, none_looked (p + 1)))
+  reclaim_looks p found sw (PageWord.Body b) is e = absurd (cc (e, none_looked (p + 1)))
+  reclaim_looks p found sw (PageWord.Head h) is e = go (eqb h.owner 0) (eqb h.number m.generation) (eqb (h.number + 2) m.generation) refl e where
     go : (b c d : Bool) → eqb (h.number + 2) m.generation ≡ d →
-        reclaim.sweep_at (cond b (cond c (reclaiming.Bits p h.pages 0) (cond d (reclaiming.Sweep p h.pages (sweep.opening p h)) (reclaiming.Wait p))) (reclaim.look_from l (p + h.pages))) ≡ Some sw → Begins (reclaiming.Look p) found sw
+        reclaim.sweep_at (cond b (cond c (ReclaimStage.Bits p h.pages 0) (cond d (ReclaimStage.Sweep p h.pages (sweep.opening p h)) (ReclaimStage.Wait p))) (reclaim.look_from l (p + h.pages))) ≡ Some sw → Begins (ReclaimStage.Look p) found sw
     go b c d t e = grind arith
 
   reclaim_begins : (q : ReclaimStage) (found : ℕ) (sw : Sweeping) → reclaim.sweep_at q ≡ None → reclaim.sweep_at (reclaim.goes_at l m q found) ≡ Some sw → Begins q found sw
@@ -61,11 +51,11 @@ module _ (l : Layout) (m : Unswept) where
   abbrev Opens : UnsweptStage → ℕ → Sweeping → Type 0
   Opens q found sw = BeginsSweep m.generation (pass.asks_at l m q) found sw
 
-  pass_looks : (p found : ℕ) (sw : Sweeping) (w : PageWord) → page_of found ≡ w → pass.sweep_at (pass.after_page l m p w) ≡ Some sw → Opens (passing.Look p) found sw
-  pass_looks p found sw page.Free is e = absurd (cc (e, none_passed (p + 1)))
-  pass_looks p found sw (page.Body b) is e = absurd (cc (e, none_passed (p + 1)))
-  pass_looks p found sw (page.Head h) is e = go (pass.is_unswept m h) refl e where
-    go : (b : Bool) → pass.is_unswept m h ≡ b → pass.sweep_at (cond b (passing.Sweep p h (sweep.opening p h)) (pass.look_from l (p + h.pages))) ≡ Some sw → Opens (passing.Look p) found sw
+  pass_looks : (p found : ℕ) (sw : Sweeping) (w : PageWord) → page_of found ≡ w → pass.sweep_at (pass.after_page l m p w) ≡ Some sw → Opens (UnsweptStage.Look p) found sw
+  pass_looks p found sw PageWord.Free is e = absurd (cc (e, none_passed (p + 1)))
+  pass_looks p found sw (PageWord.Body b) is e = absurd (cc (e, none_passed (p + 1)))
+  pass_looks p found sw (PageWord.Head h) is e = go (pass.is_unswept m h) refl e where
+    go : (b : Bool) → pass.is_unswept m h ≡ b → pass.sweep_at (cond b (UnsweptStage.Sweep p h (sweep.opening p h)) (pass.look_from l (p + h.pages))) ≡ Some sw → Opens (UnsweptStage.Look p) found sw
     go true t e = record { page = p; head = h; step_is = refl; head_is = is; number = (unswept-is m h t).2; sweep_is = cc }
     go false t e = absurd (cc (e, none_passed (p + h.pages)))
 

@@ -1,18 +1,10 @@
 -- The page that the pass for an unswept span is at stays one of the arena, the sweep that it runs stays sound, and each step lies in the heap.
 use Rattle.std.proofs.Common.{◌≡◌, ℕ, ◌^◌, ◌<◌, Option, refl, arith}
-use Rattle.std.proofs.lemmas.Bool.Decides.{nat_tests}
-use Rattle.gh_base.specs.declared.layout.Layout.{Layout}
-use Rattle.gh_base.specs.declared.pack.PageWord.{PageWord}
-use Rattle.gh_base.specs.Machines.{IsRoutine}
-use Rattle.gh_base.specs.Packing.{FitsPage, PackedWordsAreReadBack}
-use Rattle.gh_base.specs.declared.pack.SpanHead.{SpanHead}
-use Rattle.gh_central.specs.declared.unswept.UnsweptStage.{UnsweptStage}
+use Rattle.gh_central.proofs.Vocabulary.{FitsPage, IsRoutine, Layout, nat_tests, PackedWordsAreReadBack, PageWord, SpanHead, SweepEnd, Sweeping, Unswept, UnsweptStage}
 use Rattle.gh_central.specs.declared.unswept.UnsweptStage.TheVariants.{Sweep}
-use Rattle.gh_central.specs.UnsweptPass.{Unswept, after_page, after_sweep, goes_at, listing}
+use Rattle.gh_central.specs.UnsweptPass.{after_page, after_sweep, goes_at, listing}
 use Rattle.gh_central.specs.UnsweptSound.{IsStage}
-use Rattle.gh_sweep.specs.declared.sweep.SweepEnd.{SweepEnd}
 use Rattle.gh_sweep.specs.Listing as sweep
-use Rattle.gh_sweep.specs.Listing.{Sweeping}
 use Rattle.gh_sweep.specs.Sound.{FitsSweep}
 use Rattle.gh_sweep.specs.Sound as sweep_sound
 

@@ -1,20 +1,10 @@
 -- A sweep that a routine runs: that it stays at its span, where it gives what, on which words its steps are, and what they leave to who runs it.
 use Rattle.std.proofs.Common.{◌≡◌, ℕ, ◌+◌, ◌^◌, ◌<◌, Bool, true, cond, Option, Some, None, is_none, refl, sym, ap, subst, ◌∙◌, arith, eq-eqb}
-use Rattle.gh_base.specs.declared.cell.Ask.{Ask}
-use Rattle.gh_base.specs.declared.cell.Ask.TheVariants.{Store}
-use Rattle.gh_base.specs.declared.cell.Cell.TheVariants.{Page}
-use Rattle.gh_base.specs.declared.pack.PageWord.TheVariants.{Head}
-use Rattle.gh_base.specs.Cells.{Words}
-use Rattle.gh_base.specs.Packing.{FitsHead}
-use Rattle.gh_central.proofs.Vocabulary.{Arena, cell_of, effect, Freeing, Good, head_word, InRange, KeepsObjects, Laying, Layout, PackedWordsAreReadBack, page_of, Rights, SpanHead, View}
-use Rattle.gh_heap.specs.Laws.{FactsLast}
-use Rattle.gh_heap.specs.Spans.{numbered_by}
+use Rattle.gh_central.proofs.Vocabulary.{Arena, Ask, cell_of, effect, FactsLast, FitsHead, Freeing, gives, Good, Head, head_word, InRange, is_busy, KeepsObjects, Laying, Layout, numbered_by, once_swept, PackedWordsAreReadBack, Page, page_of, Rights, SpanHead, Store, Sweeping, SweepLeaves, Swept, View, Words}
 use Rattle.gh_central.specs.ReclaimFacts.{IsUnowned}
-use Rattle.gh_central.specs.Sweeping.{SweepLeaves}
-use Rattle.gh_sweep.specs.declared.sweep.SweepEnd.TheVariants.{Swept}
 use Rattle.gh_sweep.specs.declared.sweep.SweepStage.{SweepStage}
 use Rattle.gh_sweep.specs.declared.sweep.SweptSpan.{SweptSpan}
-use Rattle.gh_sweep.specs.Listing.{asks, asks_at, given, gives, goes, goes_at, is_busy, once_swept, Sweeping}
+use Rattle.gh_sweep.specs.Listing.{asks, asks_at, given, goes, goes_at}
 
 -- Where it goes.
 

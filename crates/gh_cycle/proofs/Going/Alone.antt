@@ -1,16 +1,8 @@
 -- A step that is made of moves of marking, over a move of the heap that leaves the heap that never frees: the two states still belong together.
 use Rattle.std.proofs.Common.{◌≡◌, ◌≢◌, ℕ, ◌<◌, suc, Bool, true, false, refl, sym, ap, subst, ◌∙◌, inl, inr, arith}
-use Rattle.std.proofs.lemmas.Bool.Decides.{eqb_tells}
-use Rattle.gh_base.specs.declared.cell.Cell.TheVariants as cell
-use Rattle.gh_base.specs.declared.pack.TheConstants.{END}
+use Rattle.gh_cycle.proofs.Vocabulary.{alloc_words, birth_words, Cell, ClaimsSlot, Cycle, END, eqb_tells, Ever, Good, Heap, IsBeside, IsMade, IsOfCycle, KnownOfMoves, Marking, MarkingAloneGoesBeside, MarkingGood, MarksAlone, Name, Place, Placed, Placing, Reach, reference_of, RegistersFit, Row, row_bit, view, Words}
 use Rattle.gh_heap.specs.Moves as heap
-use Rattle.gh_marks.specs.Good.{Good as MarkingGood}
 use Rattle.gh_marks.specs.Laws.{StepsGoByMoves}
-use Rattle.gh_cycle.specs.Beside.{ClaimsSlot, IsBeside, IsOfCycle, MarkingAloneGoesBeside, MarksAlone}
-use Rattle.gh_cycle.specs.Known.{KnownOfMoves}
-use Rattle.gh_cycle.specs.Marked.{RegistersFit}
-use Rattle.gh_cycle.specs.Opening.{reference_of}
-use Rattle.gh_cycle.specs.Vocabulary.{alloc_words, birth_words, Cycle, Ever, Good, Heap, IsMade, Marking, Name, Place, Placed, Placing, Reach, Row, row_bit, view, Words}
 use Rattle.gh_cycle.proofs.Going.Lasting.{beside-lasts}
 use Rattle.gh_cycle.proofs.Going.Leaving.{leaves, LeavesObjects, stood}
 use Rattle.gh_cycle.proofs.Going.Objects.{here}
@@ -65,7 +57,7 @@ module _ (k : KnownOfMoves) (z : Cycle) (a : ℕ) (h : Heap) (s t : Marking) (m 
       | inr n ↦ (step.others (z.arena.seat_of g) n.1).keeps.registers g d (lg, refl)
     ]
 
-  goes-on : (g : ℕ) → g < z.arena.layout.goroutines → after.ever.ended g ≡ false → t.words (cell.Scanned g) ≢ END
+  goes-on : (g : ℕ) → g < z.arena.layout.goroutines → after.ever.ended g ≡ false → t.words (Cell.Scanned g) ≢ END
   goes-on g lg runs = elim (eqb_tells (z.arena.seat_of g) a) [
     | inl y ↦ alone.goes_on g (record { of = (lg, y.1); goes_on = on g runs })
     | inr n ↦ λ e. c.goes_on g lg (on g runs) (sym ((step.others (z.arena.seat_of g) n.1).keeps.stacks g (lg, refl)) ∙ e)

@@ -1,9 +1,6 @@
 -- Where a cycle begins, what a script reaches and what is of the cycle are the same; so processors may go on beside it.
 use Rattle.std.proofs.Common.{ap, refl, subst, sym, ◌∙◌}
-use Rattle.gh_base.specs.declared.cell.Cell.TheVariants as cell
-use Rattle.gh_cycle.specs.Beside.{CyclesBeginBeside, IsOfCycle}
-use Rattle.gh_cycle.specs.Reached.{TheReachedWereMade}
-use Rattle.gh_cycle.specs.Vocabulary.{Name, Reach, TheHeapIsApart, view, Words}
+use Rattle.gh_cycle.proofs.Vocabulary.{Cell, CyclesBeginBeside, IsOfCycle, Name, Reach, TheHeapIsApart, TheReachedWereMade, view, Words}
 use Rattle.gh_cycle.proofs.Beginning.{registers-fit}
 
 pub cycles-begin : TheHeapIsApart → TheReachedWereMade → CyclesBeginBeside
@@ -15,7 +12,7 @@ cycles-begin apart made z h s g b rest c are none = record {
   noscan = λ n o. c.noscan n (reach n o);
   filling = λ o a is. absurd (none o a is);
   registers = registers-fit z.arena h s are;
-  goes_on = λ j l runs is. let over = rest.over j (sym (ap (λ (w : Words). w (cell.Scanned j)) c.words) ∙ is) in absurd (cc);
+  goes_on = λ j l runs is. let over = rest.over j (sym (ap (λ (w : Words). w (Cell.Scanned j)) c.words) ∙ is) in absurd (cc);
 } where
   reach : (n : Name) → IsOfCycle h s n → Reach h.ever n
   reach n o =

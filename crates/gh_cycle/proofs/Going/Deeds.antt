@@ -1,14 +1,8 @@
 -- Each step of a processor beside marking, by what it does. The move over the heap is not told: where an object is made or a value written, a move that is told leaves the same words, values and places; and where a step leaves objects alone, so does every move by which it may come.
 use Rattle.std.proofs.Common.{◌≡◌, ℕ, refl, sym, ap, subst, ◌∙◌, arith}
+use Rattle.gh_cycle.proofs.Vocabulary.{alloc_words, Arena, Ask, birth_words, ClaimsSlot, ComesBy, Cycle, Deed, DeedsGoBeside, effect, Ever, Good, hand_behind, Hands, Heap, InHand, IsBeside, IsMade, IsOfCycle, IsSlotOf, KnownOfMoves, Marking, MeetsByDeed, Name, owner_at, page_words, Place, Placed, Reach, reference_of, row_bit, StepsBeside, view, Words}
 use Rattle.gh_heap.specs.Moves as heap
-use Rattle.gh_heap.specs.Spans.{IsSlotOf}
-use Rattle.gh_marks.specs.Seats.{Hands, InHand}
-use Rattle.gh_cycle.specs.Beside.{ClaimsSlot, IsBeside, IsOfCycle}
 use Rattle.gh_cycle.specs.Deeds as deed
-use Rattle.gh_cycle.specs.Deeds.{ComesBy, Deed, DeedsGoBeside, hand_behind, MeetsByDeed, StepsBeside}
-use Rattle.gh_cycle.specs.Known.{KnownOfMoves}
-use Rattle.gh_cycle.specs.Opening.{reference_of}
-use Rattle.gh_cycle.specs.Vocabulary.{alloc_words, Arena, Ask, birth_words, Cycle, effect, Ever, Good, Heap, IsMade, Marking, Name, owner_at, page_words, Place, Placed, Reach, row_bit, view, Words}
 use Rattle.gh_cycle.proofs.Going.Lasting.{beside-lasts}
 use Rattle.gh_cycle.proofs.Going.Leaving.{leaves, LeavesObjects, made-there, stood}
 use Rattle.gh_cycle.proofs.Going.Making.{makes}

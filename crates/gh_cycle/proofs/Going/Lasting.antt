@@ -1,12 +1,7 @@
 -- What a step leaves that makes no object: the two states still belong together.
-use Rattle.std.specs.Prelude.{◌≡◌, ◌≢◌, ℕ, ◌<◌, true, false}
-use Rattle.std.proofs.Common.{arith}
-use Rattle.gh_base.specs.declared.cell.Cell.TheVariants as cell
-use Rattle.gh_base.specs.declared.pack.TheConstants.{END}
+use Rattle.std.proofs.Common.{arith, ◌≡◌, ◌≢◌, ℕ, ◌<◌, true, false}
+use Rattle.gh_cycle.proofs.Vocabulary.{Arena, Cell, ClaimsSlot, END, Heap, IsBeside, IsOfCycle, Marking, Name, Placing, Reach, RegistersFit, view}
 use Rattle.gh_marks.specs.Moves.{SameExtent}
-use Rattle.gh_cycle.specs.Beside.{ClaimsSlot, IsBeside, IsOfCycle}
-use Rattle.gh_cycle.specs.Marked.{RegistersFit}
-use Rattle.gh_cycle.specs.Vocabulary.{Arena, Heap, Marking, Name, Placing, Reach, view}
 
 pub record MakesNone (z : Arena) (h k : Heap) (s t : Marking) : Type 0 where
   pub words : t.words ≡ k.words
@@ -18,7 +13,7 @@ pub record MakesNone (z : Arena) (h k : Heap) (s t : Marking) : Type 0 where
   pub extents : (o : ℕ) → s.since o ≡ true → SameExtent s.extents t.extents o
   pub filling : (o a : ℕ) → t.colour o ≡ Placing a → ClaimsSlot z (view k) a o
   pub registers : RegistersFit z k t
-  pub goes_on : (g : ℕ) → g < z.layout.goroutines → k.ever.ended g ≡ false → t.words (cell.Scanned g) ≢ END
+  pub goes_on : (g : ℕ) → g < z.layout.goroutines → k.ever.ended g ≡ false → t.words (Cell.Scanned g) ≢ END
 
 pub beside-lasts : (z : Arena) (h k : Heap) (s t : Marking) → IsBeside z h s → MakesNone z h k s t → IsBeside z k t
 beside-lasts z h k s t c m = grind arith

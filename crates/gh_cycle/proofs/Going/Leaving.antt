@@ -1,14 +1,8 @@
 -- What a move over the heap leaves that makes no object. And whichever move makes one, where it is made the words tell.
 use Rattle.std.proofs.Common.{◌≡◌, ℕ, ◌+◌, ◌/◌, ◌%◌, ◌^◌, ◌<◌, Bool, cond, eqb, refl, sym, ap, subst, ◌∙◌, inl, inr, arith, None}
 use Rattle.std.proofs.lemmas.Bool.{eq-eqb}
-use Rattle.std.proofs.lemmas.Bool.Decides.{eqb_tells}
-use Rattle.gh_base.specs.declared.cell.Ask.TheVariants as ask
-use Rattle.gh_base.specs.declared.cell.Cell.TheVariants as cell
-use Rattle.gh_heap.specs.Laws.{name_made}
+use Rattle.gh_cycle.proofs.Vocabulary.{alloc_words, Ask, birth_words, Cell, Cycle, effect, eqb_tells, Heap, InHand, Marking, Name, name_made, next_name, Placed, row_bit, RowsAreWritten, View, view, with_object, Words}
 use Rattle.gh_heap.specs.Moves as heap
-use Rattle.gh_marks.specs.Seats.{InHand}
-use Rattle.gh_model.specs.Ever.{next_name, with_object}
-use Rattle.gh_cycle.specs.Vocabulary.{alloc_words, Ask, birth_words, Cycle, effect, Heap, Marking, Name, Placed, row_bit, RowsAreWritten, view, View, Words}
 use Rattle.gh_cycle.proofs.Bits.{zero_one}
 use Rattle.gh_cycle.proofs.Going.Objects.{here}
 use Rattle.gh_cycle.proofs.Going.Plain.{hand_after, there}
@@ -65,13 +59,13 @@ module _ (z : Cycle) (a : ℕ) (h : Heap) (s : Marking) where
           absurd (omega (arith, more))
     ]
 
-    set-there : (x j d y : ℕ) → (there z a h s (heap.Make x j d y)).words ≡ effect s.words (ask.Or (cell.Alloc (at / 64)) (2 ^ (at % 64))) → x ≡ at
+    set-there : (x j d y : ℕ) → (there z a h s (heap.Make x j d y)).words ≡ effect s.words (Ask.Or (Cell.Alloc (at / 64)) (2 ^ (at % 64))) → x ≡ at
     set-there x j d y words = elim (eqb_tells x at) [
       | inl is ↦ is.1
       | inr ne ↦ absurd (zero_one (row_bit (alloc_words s.words) at) clear
           (sym (rows.sets_no_other (alloc_words s.words) x at ne.1) ∙ ap (λ (u : Words). row_bit (alloc_words u) at) words ∙ rows.sets_one (alloc_words s.words) at))
     ]
 
-    pub made-there : (m : heap.Move) → (there z a h s m).words ≡ effect s.words (ask.Or (cell.Alloc (at / 64)) (2 ^ (at % 64))) → (there z a h s m).ever.made ≡ (with_object z.arena.shapes h.ever g t).made → (there z a h s m).place ≡ heap.placed_at h.place (next_name h.ever g) at
+    pub made-there : (m : heap.Move) → (there z a h s m).words ≡ effect s.words (Ask.Or (Cell.Alloc (at / 64)) (2 ^ (at % 64))) → (there z a h s m).ever.made ≡ (with_object z.arena.shapes h.ever g t).made → (there z a h s m).place ≡ heap.placed_at h.place (next_name h.ever g) at
     made-there (heap.Make x j d y) words same = ap (λ (i : ℕ). heap.placed_at h.place (next_name h.ever i) x) (by-whom j y same) ∙ ap (λ (i : ℕ). heap.placed_at h.place (next_name h.ever g) i) (set-there x j d y words)
     made-there _ words same = absurd (one-more g t (sym same))

@@ -1,11 +1,8 @@
 -- An object is made beside marking: it is black from the first, since its slot was marked before and its pointer fields are clear.
 use Rattle.std.proofs.Common.{◌≡◌, ◌≢◌, ℕ, ◌+◌, ◌-◌, ◌*◌, ◌<◌, ◌≤◌, ◌⊎◌, Bool, true, false, cond, refl, sym, ap, subst, ◌∙◌, inl, inr, arith, eq-eqb}
-use Rattle.gh_base.specs.declared.shape.Shape.{Shape}
-use Rattle.gh_base.specs.Shapes.{is_pointer, shape_at}
-use Rattle.gh_model.specs.declared.EverValue.TheVariants as ever
+use Rattle.gh_cycle.proofs.Vocabulary.{alloc_words, Black, ClaimsSlot, Cycle, eqb_tells, EverValue, field_count, Good, Hands, Heap, InHand, is_pointer, IsMade, IsOfCycle, KnownOfMoves, Marking, Name, next_name, Placed, Placing, points, Reach, reference_of, RegistersFit, row_bit, same_name, Shape, shape_at, shape_for, size_for, update, view, with_object}
 use Rattle.gh_heap.specs.Moves as heap
 use Rattle.gh_marks.specs.Moves as marks
-use Rattle.gh_cycle.proofs.Vocabulary.{alloc_words, Black, ClaimsSlot, Cycle, eqb_tells, EverValue, field_count, Good, Hands, Heap, InHand, IsMade, IsOfCycle, KnownOfMoves, Marking, Name, next_name, Placed, Placing, points, Reach, reference_of, RegistersFit, row_bit, same_name, shape_for, size_for, update, view, with_object}
 use Rattle.gh_cycle.proofs.Reaching.{name-itself, name-tells}
 use Rattle.gh_cycle.proofs.Going.Objects.{here}
 use Rattle.gh_cycle.proofs.Going.Plain.{fills-still, GoesBeside, hand_after, there, Together}
@@ -173,12 +170,12 @@ module _ (k : KnownOfMoves) (z : Cycle) (a : ℕ) (h : Heap) (s : Marking) (w : 
       | inl y ↦ let c = w.beside.filling o b was in record { size = c.size; claim = record { p = c.claim.p; h = c.claim.h; i = c.claim.i; held = c.claim.held; slot = c.claim.slot; clear = k.rows.sets_no_other (alloc_words s.words) at o ne ∙ c.claim.clear } }
     ]
 
-  reference-same : (v : EverValue) → ((n : Name) → v ≡ ever.Ref n → IsMade h.ever.made n) → reference_of h.place v ≡ reference_of after.place v
+  reference-same : (v : EverValue) → ((n : Name) → v ≡ EverValue.Ref n → IsMade h.ever.made n) → reference_of h.place v ≡ reference_of after.place v
   reference-same v made = grind (arith, place-old)
 
   fit : RegistersFit z.arena after then
   fit j c lj lc runs = ap (λ (x : ℕ). heap.update_at s.registers g d x j c) (ap (λ (x : ℕ). x + 1) (sym at-new))
-      ∙ set-fits s.registers (with_object z.arena.shapes h.ever g t) after.place g d (ever.Ref new) j c (w.beside.registers j c lj lc runs ∙ reference-same (h.ever.register j c) (λ n is. (w.bounded.registers j c n is).2))
+      ∙ set-fits s.registers (with_object z.arena.shapes h.ever g t) after.place g d (EverValue.Ref new) j c (w.beside.registers j c lj lc runs ∙ reference-same (h.ever.register j c) (λ n is. (w.bounded.registers j c n is).2))
 
   pub makes : GoesBeside z a (here h s) s move
   makes = record {

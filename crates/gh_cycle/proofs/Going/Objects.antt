@@ -1,9 +1,6 @@
 -- Objects of the cycle have names, and their pointer fields lie in slots of their own.
 use Rattle.std.proofs.Common.{◌≡◌, ◌≢◌, ℕ, ◌+◌, ◌<◌, true, ap, subst, ◌∙◌}
-use Rattle.gh_heap.specs.Spans.{IsSlotOf}
-use Rattle.gh_marks.specs.Good.{Good as MarkingGood}
-use Rattle.gh_cycle.specs.Beside.{IsBeside, IsOfCycle}
-use Rattle.gh_cycle.specs.Vocabulary.{alloc_words, Cycle, Good, Heap, IsPointer, Marking, Name, page_words, row_bit, size_for, SpanHead, TheHeapIsApart, view}
+use Rattle.gh_cycle.proofs.Vocabulary.{alloc_words, Cycle, Good, Heap, IsBeside, IsOfCycle, IsPointer, IsSlotOf, Marking, MarkingGood, Name, page_words, row_bit, size_for, SpanHead, TheHeapIsApart, view}
 use Rattle.gh_cycle.proofs.Quiet.{with_words}
 
 -- the heap with the words of marking

@@ -1,19 +1,8 @@
 -- A move over the heap that makes no object leaves the two states together, if marking goes along with it; and so it does by a quiet step.
 use Rattle.std.proofs.Common.{◌≡◌, ◌≢◌, ℕ, ◌<◌, false, refl, sym, ap, subst, ◌∙◌, inl, inr, None}
-use Rattle.std.proofs.lemmas.Bool.Decides.{eqb_tells}
-use Rattle.gh_base.specs.declared.cell.Cell.TheVariants as cell
-use Rattle.gh_base.specs.declared.pack.TheConstants.{END}
-use Rattle.gh_heap.specs.Laws.{name_made}
+use Rattle.gh_cycle.proofs.Vocabulary.{alloc_words, Ask, birth_words, Cell, ClaimsSlot, Cycle, effect, END, eqb_tells, Good, Hands, Heap, InHand, IsBeside, IsBounded, IsMade, IsMarked, KnownOfMoves, mark_words, Marking, MarkingGood, Name, name_made, Placed, Placing, Reach, reference_of, RegistersFit, Row, view}
 use Rattle.gh_heap.specs.Moves as heap
-use Rattle.gh_marks.specs.Good.{Good as MarkingGood}
 use Rattle.gh_marks.specs.Moves as marks
-use Rattle.gh_marks.specs.Seats.{Hands, InHand}
-use Rattle.gh_cycle.specs.Beside.{ClaimsSlot, IsBeside}
-use Rattle.gh_cycle.specs.Marked.{RegistersFit}
-use Rattle.gh_cycle.specs.Opening.{reference_of}
-use Rattle.gh_cycle.specs.Reached.{IsBounded}
-use Rattle.gh_cycle.specs.Vocabulary.{alloc_words, Ask, birth_words, Cycle, effect, Good, Heap, IsMade, IsMarked, mark_words, Marking, Name, Placed, Placing, Reach, Row, view}
-use Rattle.gh_cycle.specs.Known.{KnownOfMoves}
 use Rattle.gh_cycle.proofs.Going.Lasting.{beside-lasts}
 use Rattle.gh_cycle.proofs.Going.Objects.{here}
 
@@ -82,7 +71,7 @@ module _ (k : KnownOfMoves) (z : Cycle) (a : ℕ) (h : Heap) (s : Marking) (w : 
   module _ (m : heap.Move) (may : heap.May z.arena a (view (here h s)) m) (p : IsPlain z a h s m) (t : Marking) (g : GoesAlong z a h s m t) where
     pub goes-along : ((n : Name) → Placed (alloc_words s.words) (birth_words (there z a h s m).words) h.place n → Placed (alloc_words s.words) (birth_words s.words) h.place n) →
         ((o : ℕ) → s.colour o ≡ Placing a → ClaimsSlot z.arena (view (there z a h s m)) a o) → RegistersFit z.arena (there z a h s m) t →
-        ((j : ℕ) → j < z.arena.layout.goroutines → (there z a h s m).ever.ended j ≡ false → t.words (cell.Scanned j) ≢ END) → GoesBeside z a (here h s) s m
+        ((j : ℕ) → j < z.arena.layout.goroutines → (there z a h s m).ever.ended j ≡ false → t.words (Cell.Scanned j) ≢ END) → GoesBeside z a (here h s) s m
     goes-along placed own fit goes_on = record {
       then = t;
       went = g.went;
@@ -107,7 +96,7 @@ module _ (k : KnownOfMoves) (z : Cycle) (a : ℕ) (h : Heap) (s : Marking) (w : 
     }
 
   -- A quiet step leaves the words of stacks, whosever they are.
-  pub stacks-stay : (step : Ask) → marks.IsQuietInMarking s step → (j : ℕ) → j < z.arena.layout.goroutines → effect s.words step (cell.Scanned j) ≡ s.words (cell.Scanned j)
+  pub stacks-stay : (step : Ask) → marks.IsQuietInMarking s step → (j : ℕ) → j < z.arena.layout.goroutines → effect s.words step (Cell.Scanned j) ≡ s.words (Cell.Scanned j)
   stacks-stay step q j l = elim (eqb_tells (z.arena.seat_of j) a) [
     | inl y ↦ (k.own z a s (marks.Quiet step) w.marking q tt).stacks j (l, y.1)
     | inr n ↦ (k.leaves z (z.arena.seat_of j) a s (marks.Quiet step) n.1 w.marking q).keeps.stacks j (l, refl)
@@ -133,5 +122,5 @@ module _ (k : KnownOfMoves) (z : Cycle) (a : ℕ) (h : Heap) (s : Marking) (w : 
     fit : RegistersFit z.arena (there z a h s m) (marks.moved z a s (marks.Quiet step))
     fit g d lg ld runs = w.beside.registers g d lg ld (sym (ap (λ e. e.ended g) same) ∙ runs) ∙ ap (λ e. reference_of h.place (e.register g d)) (sym same) ∙ ap (λ f. reference_of f ((there z a h s m).ever.register g d)) (sym plain.place)
 
-    goes_on : (j : ℕ) → j < z.arena.layout.goroutines → (there z a h s m).ever.ended j ≡ false → effect s.words step (cell.Scanned j) ≢ END
+    goes_on : (j : ℕ) → j < z.arena.layout.goroutines → (there z a h s m).ever.ended j ≡ false → effect s.words step (Cell.Scanned j) ≢ END
     goes_on j l runs ended = w.beside.goes_on j l (sym (ap (λ e. e.ended j) same) ∙ runs) (sym (stacks-stay step q j l) ∙ ended)

@@ -1,16 +1,8 @@
 -- The mark of a claimed slot may be set before its object is made: the slot is white, since nothing stands there and nobody else fills it.
 use Rattle.std.proofs.Common.{◌≡◌, ◌≢◌, ℕ, ◌+◌, ◌-◌, ◌*◌, ◌/◌, ◌<◌, ◌≤◌, cond, refl, sym, ap, subst, ◌∙◌, inl, inr, arith}
-use Rattle.std.proofs.lemmas.Bool.Decides.{eqb_tells}
-use Rattle.gh_base.specs.Packing.{page_of}
-use Rattle.gh_class.specs.Classes.{IsSizeClass}
-use Rattle.gh_class.specs.declared.class.SizeClass.{SizeClass}
-use Rattle.gh_heap.specs.Rights.{Claims}
-use Rattle.gh_heap.specs.Spans.{is_own_class, number_of_class}
-use Rattle.gh_marks.specs.Colours.{Black, Buffered, Colour, IsShaded, Pending, Taken, White}
-use Rattle.gh_marks.specs.Good.{Good as MarkingGood}
+use Rattle.gh_cycle.proofs.Vocabulary.{alloc_words, Black, Buffered, Claims, ClaimsSlot, Colour, Cycle, eqb_tells, FillsNone, Good, Heap, is_own_class, IsBeside, IsShaded, IsSizeClass, IsSpan, Marking, MarkingGood, number_of_class, owner_at, page_of, PageWord, Pending, Placing, Row, row_bit, SizeClass, slot_of, SlotsAreReserved, SpanHead, Taken, TheHeapIsApart, View, view, White, Words}
 use Rattle.gh_marks.specs.Moves as marks
-use Rattle.gh_cycle.specs.Beside.{ClaimsSlot, FillsNone, IsBeside, SlotsAreReserved}
-use Rattle.gh_cycle.specs.Vocabulary.{alloc_words, Body, Cycle, Free, Good, Head, Heap, IsSpan, Marking, owner_at, PageWord, Placing, row_bit, Row, slot_of, SpanHead, TheHeapIsApart, view, View, Words}
+use Rattle.gh_base.specs.declared.pack.PageWord.TheVariants.{Body, Free, Head}
 use Rattle.gh_cycle.proofs.Bits.{zero_one}
 use Rattle.gh_cycle.proofs.Going.Lasting.{beside-lasts}
 use Rattle.gh_cycle.proofs.Going.Objects.{here}

@@ -1,18 +1,13 @@
 -- Steps beside marking by which a register takes a value, and the end of a goroutine.
 use Rattle.std.proofs.Common.{◌≡◌, ◌≢◌, ℕ, ◌<◌, Bool, true, false, cond, eqb, refl, sym, ap, subst, ◌∙◌, inl, inr, arith}
-use Rattle.gh_base.specs.declared.cell.Ask.TheVariants as ask
-use Rattle.gh_base.specs.declared.cell.Cell.TheVariants as cell
-use Rattle.gh_base.specs.declared.pack.TheConstants.{END}
-use Rattle.gh_base.specs.Rows.{Row}
+use Rattle.gh_cycle.proofs.Vocabulary.{alloc_words, Ask, birth_words, Cell, ClaimsSlot, Cycle, effect, END, eqb_tells, Ever, EverValue, GoroutineRuns, Heap, IsReached, IsSince, KnownOfMoves, Marking, Name, nat_tests, Place, Placed, Placing, reference_of, RegistersFit, Row, TakesFrom, update_at, View, view, with_end, with_register}
 use Rattle.gh_heap.specs.Moves as heap
 use Rattle.gh_marks.specs.Moves as marks
-use Rattle.gh_cycle.proofs.Vocabulary.{alloc_words, Ask, birth_words, ClaimsSlot, Cycle, effect, eqb_tells, Ever, EverValue, GoroutineRuns, Heap, IsReached, IsSince, KnownOfMoves, Marking, Name, nat_tests, Place, Placed, Placing, reference_of, RegistersFit, update_at, View, view, with_end, with_register, with_words}
-use Rattle.gh_cycle.specs.Deeds.{TakesFrom}
+use Rattle.gh_cycle.proofs.Quiet.{with_words, quiet_view}
 use Rattle.gh_cycle.proofs.Beginning.{names-reference}
 use Rattle.gh_cycle.proofs.Going.Coming.{comes, from-reached}
 use Rattle.gh_cycle.proofs.Going.Objects.{here}
 use Rattle.gh_cycle.proofs.Going.Plain.{along-quiet, goes-along, GoesAlong, GoesBeside, IsPlain, stacks-stay, there, Together}
-use Rattle.gh_cycle.proofs.Quiet.{quiet_view}
 
 quiet-with : (s : Marking) (registers : ℕ → Row) (step : Ask) → marks.IsQuietInMarking s step → marks.IsQuietInMarking (record s { registers = registers }) step
 quiet-with s registers step quiet = grind arith
@@ -92,14 +87,14 @@ module _ (k : KnownOfMoves) (z : Cycle) (a : ℕ) (h : Heap) (s : Marking) (w : 
           ∙ ap (λ e. reference_of h.place (e.register j c)) (sym same)
           ∙ ap (λ f. reference_of f ((there z a h s m).ever.register j c)) (sym plain.place)
 
-      goes_on : (j : ℕ) → j < z.arena.layout.goroutines → (there z a h s m).ever.ended j ≡ false → effect s.words step (cell.Scanned j) ≢ END
+      goes_on : (j : ℕ) → j < z.arena.layout.goroutines → (there z a h s m).ever.ended j ≡ false → effect s.words step (Cell.Scanned j) ≢ END
       goes_on j l on ended = w.beside.goes_on j l (sym (ap (λ e. e.ended j) same) ∙ on) (sym (stacks-stay k z a h s w step mq j l) ∙ ended)
 
   abbrev ended-by : (g : ℕ) → Marking
   ended-by g = marks.moved z a s (marks.EndStack g)
 
   -- A goroutine ends: its registers name nothing then, and its stack's word says so.
-  pub ends-goes : (step : Ask) (g : ℕ) → heap.May z.arena a (view (here h s)) (heap.Ends step g) → step ≡ ask.Store (cell.Scanned g) END → GoesBeside z a (here h s) s (heap.Ends step g)
+  pub ends-goes : (step : Ask) (g : ℕ) → heap.May z.arena a (view (here h s)) (heap.Ends step g) → step ≡ Ask.Store (Cell.Scanned g) END → GoesBeside z a (here h s) s (heap.Ends step g)
   ends-goes step g may is = goes-along k z a h s w (heap.Ends step g) may (record { none = refl; hand = λ x. refl; place = refl; types = refl; made = refl; alloc = same-alloc step may.0 }) (ended-by g) (record {
     went = marks.goes s (marks.EndStack g) marks.stays may.1.of;
     words = ap (effect s.words) (sym is);
@@ -122,5 +117,5 @@ module _ (k : KnownOfMoves) (z : Cycle) (a : ℕ) (h : Heap) (s : Marking) (w : 
     fit : RegistersFit z.arena (there z a h s (heap.Ends step g)) (ended-by g)
     fit j c lj lc on = let o = other j on in rw (o.0) (w.beside.registers j c lj lc o.1)
 
-    goes_on : (j : ℕ) → j < z.arena.layout.goroutines → (there z a h s (heap.Ends step g)).ever.ended j ≡ false → (ended-by g).words (cell.Scanned j) ≢ END
+    goes_on : (j : ℕ) → j < z.arena.layout.goroutines → (there z a h s (heap.Ends step g)).ever.ended j ≡ false → (ended-by g).words (Cell.Scanned j) ≢ END
     goes_on j l on e = let o = other j on in w.beside.goes_on j l o.1 (rw (o.0) at e)

@@ -1,17 +1,9 @@
 -- Fields and globals take values beside marking: pointers behind the write barrier, and a number where no object of the cycle has a pointer field.
 use Rattle.std.proofs.Common.{◌≡◌, ◌≢◌, ℕ, ◌+◌, Bool, true, false, refl, subst, arith}
-use Rattle.gh_base.specs.declared.cell.Ask.TheVariants as ask
-use Rattle.gh_base.specs.declared.cell.Cell.TheVariants as cell
-use Rattle.gh_base.specs.Rows.{field_words, global_words}
+use Rattle.gh_cycle.proofs.Vocabulary.{Ask, Cell, ClaimsSlot, Cycle, EverValue, field_words, global_words, Hands, Heap, Holds, InHand, IsClean, IsOfCycle, IsPointer, IsReached, IsSince, KnownOfMoves, mark_words, Marking, Name, Placing, points, put, view}
 use Rattle.gh_heap.specs.Moves as heap
-use Rattle.gh_heap.specs.Moves.{IsReached}
-use Rattle.gh_marks.specs.Colours.{IsClean}
 use Rattle.gh_marks.specs.Moves as marks
-use Rattle.gh_marks.specs.Seats.{Hands, InHand}
-use Rattle.gh_cycle.specs.Beside.{ClaimsSlot, IsOfCycle}
-use Rattle.gh_cycle.specs.Vocabulary.{Cycle, EverValue, Heap, Holds, IsPointer, IsSince, mark_words, Marking, Name, Placing, points, put, view}
 use Rattle.gh_cycle.proofs.Beginning.{names-it}
-use Rattle.gh_cycle.specs.Known.{KnownOfMoves}
 use Rattle.gh_cycle.proofs.Going.Objects.{here, name-at}
 use Rattle.gh_cycle.proofs.Going.Plain.{goes-along, GoesAlong, GoesBeside, there, Together}
 
@@ -35,7 +27,7 @@ module _ (k : KnownOfMoves) (z : Cycle) (a : ℕ) (h : Heap) (s : Marking) (w : 
     Barrier = points z.arena.shapes h.ever.type_of n i ≡ true → IsClean (mark_words s.words) (field_words s.words x) × IsClean (mark_words s.words) word
 
     abbrev written : Marking
-    written = record s { words = put s.words (cell.Field x) word }
+    written = record s { words = put s.words (Cell.Field x) word }
 
     -- a field that is no pointer is no pointer field of an object of the cycle
     aside : points z.arena.shapes h.ever.type_of n i ≡ false → (o j : ℕ) → s.since o ≡ true → IsPointer s.extents o j → x ≢ o + j
@@ -50,9 +42,9 @@ module _ (k : KnownOfMoves) (z : Cycle) (a : ℕ) (h : Heap) (s : Marking) (w : 
 
     along-by : (b : Bool) → points z.arena.shapes h.ever.type_of n i ≡ b → Barrier → GoesAlong z a h s (heap.Write n i value word) written
     along-by true e meets = along (marks.goes s (marks.PutField x word) marks.stays behind) (λ y is. (k.hands z a s y w.marking is).put_field x word) where
-      behind : marks.BehindBarrier s (s.words (cell.Field x)) word
+      behind : marks.BehindBarrier s (s.words (Cell.Field x)) word
       behind = record { old = (meets e).0; new = (meets e).1; since = word-since value word may.value_reached (subst (λ (p : Bool). Holds h.place h.ever.made p value word) e may.holds) }
-    along-by false e meets = along (marks.goes s (marks.Quiet (ask.Store (cell.Field x) word)) marks.stays (aside e)) (λ y is. (k.hands z a s y w.marking is).quiet (ask.Store (cell.Field x) word) (aside e))
+    along-by false e meets = along (marks.goes s (marks.Quiet (Ask.Store (Cell.Field x) word)) marks.stays (aside e)) (λ y is. (k.hands z a s y w.marking is).quiet (Ask.Store (Cell.Field x) word) (aside e))
 
     pub writes : Barrier → GoesBeside z a (here h s) s (heap.Write n i value word)
     writes meets = goes-along k z a h s w (heap.Write n i value word) may (record { none = refl; hand = λ y. refl; place = refl; types = refl; made = refl; alloc = refl }) written (along-by (points z.arena.shapes h.ever.type_of n i) refl meets) (λ m p. p) claims w.beside.registers w.beside.goes_on where

@@ -1,13 +1,7 @@
 -- Where an operation of a run acted: the step of the list, what it found there, and its answer.
-use Rattle.std.proofs.Common.{◌≡◌, ℕ, zero, suc, ◌⊎◌, Bool, true, cond, List, [], ◌∷◌, ◌++◌, length, reverse, Option, Some, None, refl, sym, ap, ◌∙◌, arith, inl, inr}
-use Rattle.std.specs.Prelude.{slice_get}
-use Rattle.std.specs.Option.{option_to_list}
+use Rattle.std.proofs.Common.{◌≡◌, ℕ, zero, suc, ◌⊎◌, Bool, true, cond, List, [], ◌∷◌, ◌++◌, length, reverse, Option, Some, None, refl, sym, ap, ◌∙◌, arith, inl, inr, slice_get}
 use Rattle.std.proofs.lemmas.Grind.{reverse_onto}
-use Rattle.std.proofs.lemmas.List.{length-reverse}
-use Rattle.gh_world.specs.Vocabulary.{Act, acts, answer_at, Entry, has_point, Layout, Legal, Op, Program}
-use Rattle.gh_mutator.specs.Deeds.{point_of}
-use Rattle.gh_lists.specs.Order.{acted_in, Answered}
-use Rattle.gh_world.specs.RunVocabulary.{ActedBehind, answered, arena_of, before_step, ever_of, FullOnlyThere, order_of, setting_of}
+use Rattle.gh_explained.proofs.Vocabulary.{Act, acted_in, ActedBehind, acts, answer_at, Answered, answered, arena_of, before_step, Entry, ever_of, FullOnlyThere, has_point, Layout, Legal, length-reverse, Op, option_to_list, order_of, point_of, Program, setting_of}
 
 -- what stands in a list with one element more
 pub one_more_at : {A : Type 0} (xs : List A) (y : A) (i : ℕ) (x : A) → slice_get (xs ++ y ∷ []) i ≡ Some x → (slice_get xs i ≡ Some x) ⊎ ((length xs ≡ i) × (y ≡ x))

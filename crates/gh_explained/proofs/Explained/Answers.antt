@@ -1,24 +1,9 @@
 -- What the statements of a whole run are answered.
 use Rattle.std.proofs.Common.{◌≡◌, ℕ, ◌<◌, ◌≤◌, ◌%◌, Bool, true, false, cond, eqb, eq-eqb, List, [], ◌∷◌, ◌++◌, map, length, reverse, Option, refl, sym, ap, subst, ◌∙◌, arith}
-use Rattle.std.specs.Option.{option_to_list}
-use Rattle.std.specs.List.{filter}
 use Rattle.std.proofs.lemmas.Bool.{eqb-true}
-use Rattle.std.proofs.lemmas.List.{length-map}
 use Rattle.std.proofs.lemmas.Nat.{mod_below}
-use Rattle.gh_world.specs.Vocabulary.{Act, AllAnswer, Answer, answered_by, AnsweredDeed, answers_by, by, deeds, Entry, has_left_at, is_busy_at, Layout, meaning, Op, opening_ever, Processor, processor_kind, Program, state_of, statements_of, Task}
-use Rattle.gh_mutator.specs.Acting.{EachOperationActsOnce}
-use Rattle.gh_mutator.specs.Deeds.{has_point, OnlyPointsChange}
-use Rattle.gh_script.specs.Program.{statement_as_op}
-use Rattle.gh_lists.specs.Order.{acted_at, acted_in, Answered, begun_in, order_at, order_of}
-use Rattle.gh_lists.specs.Processors.{answers_of, arena_of, ListStands}
-use Rattle.gh_world.specs.Runs.{acted_by, answers_at, answers_given, AreItsStatements, IsRun}
-use Rattle.gh_world.specs.Schedule.{has_ended}
-use Rattle.gh_world.specs.Turns.{answers_to, is_of_seat, is_statement_of, turns_of}
-use Rattle.gh_world.specs.World.{setting_of}
-use Rattle.gh_world.proofs.EachOnce.{acted_answers, acted_ops, none_beyond, turns_mine}
-use Rattle.gh_world.proofs.Resting.{is_processor}
-use Rattle.gh_world.proofs.Explained.Acted.{acted_all, answers_in, ever_answers_by, map-reverse, none_acts, ops_are, ops_by, points_are, points_by}
-use Rattle.gh_world.proofs.Explained.Seats.{acted_its}
+use Rattle.gh_explained.proofs.Vocabulary.{Act, acted_all, acted_answers, acted_at, acted_by, acted_in, acted_its, acted_ops, AllAnswer, Answer, Answered, answered_by, AnsweredDeed, answers_at, answers_by, answers_given, answers_in, answers_to, AreItsStatements, arena_of, begun_in, by, deeds, EachOperationActsOnce, Entry, ever_answers_by, filter, has_ended, has_left_at, has_point, is_busy_at, is_of_seat, is_processor, is_statement_of, IsRun, Layout, length-map, ListStands, map-reverse, meaning, none_acts, none_beyond, OnlyPointsChange, Op, opening_ever, ops_are, ops_by, option_to_list, order_at, order_of, points_are, points_by, Processor, processor_kind, Program, setting_of, state_of, statement_as_op, statements_of, Task, turns_mine, turns_of}
+use Rattle.gh_lists.specs.Processors.{answers_of}
 use Rattle.gh_explained.proofs.Explained.Told.{given, rests_told, told_backwards, told_of, told_points}
 
 -- where no operation is listed, none acted

@@ -1,14 +1,6 @@
 -- Where all is over a script reaches what its globals hold: every goroutine that there is has ended, and no other has a register that names an object.
 use Rattle.std.proofs.Common.{◌≡◌, ℕ, ◌<◌, ◌≤◌, Bool, true, false, cond, List, [], ◌∷◌, refl, sym, ◌∙◌, arith, inl, inr}
-use Rattle.std.specs.List.{filter}
-use Rattle.std.proofs.lemmas.Bool.{cases_lt}
-use Rattle.std.proofs.lemmas.Bool.Decides.{nat_tests}
-use Rattle.gh_model.specs.Answers.{ever_after_all}
-use Rattle.gh_model.specs.declared.EverValue.TheVariants as values
-use Rattle.gh_model.specs.Ever.{from_field, from_global, from_register}
-use Rattle.gh_world.specs.Cycles.{by_field, by_global, IsHeldByGlobals}
-use Rattle.gh_world.specs.Turns.{is_statement_of}
-use Rattle.gh_world.specs.Vocabulary.{Answer, Ever, ever_after, Op, Reach, Shape, Name}
+use Rattle.gh_explained.proofs.Vocabulary.{Answer, by_field, by_global, cases_lt, Ever, ever_after, ever_after_all, EverValue, filter, from_field, from_global, from_register, is_statement_of, IsHeldByGlobals, Name, nat_tests, Op, Reach, Shape}
 
 module _ (shapes : List Shape) (g d : ℕ) where
   -- whoever is no statement of the goroutine leaves its registers
@@ -25,10 +17,10 @@ module _ (shapes : List Shape) (g d : ℕ) where
     go false is none rest = rest none ∙ leaves e o a is
 
 -- so what is reached then is held by the globals
-pub held_at_end : (e : Ever) (goroutines : ℕ) → ((g : ℕ) → g < goroutines → e.ended g ≡ true) → ((g d : ℕ) → goroutines ≤ g → e.register g d ≡ values.Nil) → (n : Name) → Reach e n → IsHeldByGlobals e n
+pub held_at_end : (e : Ever) (goroutines : ℕ) → ((g : ℕ) → g < goroutines → e.ended g ≡ true) → ((g d : ℕ) → goroutines ≤ g → e.register g d ≡ EverValue.Nil) → (n : Name) → Reach e n → IsHeldByGlobals e n
 held_at_end e goroutines over beyond n (from_global k m is) = by_global k m is
 held_at_end e goroutines over beyond n (from_register g d m runs is) = elim (cases_lt g goroutines) [
   | inl lt ↦ absurd (let no : true ≡ false = sym (over g lt) ∙ runs in cc)
-  | inr le ↦ absurd (let no : values.Nil ≡ values.Ref m = sym (beyond g d le) ∙ is in cc)
+  | inr le ↦ absurd (let no : EverValue.Nil ≡ EverValue.Ref m = sym (beyond g d le) ∙ is in cc)
 ]
 held_at_end e goroutines over beyond n (from_field m k o r is) = by_field m k o (held_at_end e goroutines over beyond m r) is

@@ -1,21 +1,10 @@
 -- The cycles that the coordinator keeps are those that have ended in the list, in their order, with what was marked and white where each ended.
-use Rattle.std.proofs.Common.{◌≡◌, ℕ, zero, suc, ◌+◌, inl, inr, true, refl, sym, ap, subst, ◌∙◌, arith, List, [], ◌∷◌, ◌++◌, map, length, Some}
-use Rattle.std.specs.Prelude.{slice_get}
+use Rattle.std.proofs.Common.{◌≡◌, ℕ, zero, suc, ◌+◌, inl, inr, true, refl, sym, ap, subst, ◌∙◌, arith, List, [], ◌∷◌, ◌++◌, map, length, Some, slice_get}
 use Rattle.std.proofs.lemmas.List.{append-nil, length-append}
-use Rattle.gh_base.specs.declared.cell.Ask.TheVariants.{Store}
-use Rattle.gh_base.specs.declared.cell.Cell.TheVariants as cell
+use Rattle.gh_explained.proofs.Vocabulary.{acks_of, Actor, actor_after, alloc_words, AllWereCounted, Ask, At, begins, Cell, Coordinating, CoordStage, Cycle, cycles_in, Done, effect, ended_by, ends, EndsCycle, Entry, generation_after, IsStartOf, Layout, Legal, legal_start, mark_words, marked_objects, numbers_of, Op, opened_in, Outside, own_counts, pacing_of, Part, part_of, Program, same, setting_of, setup_of, Spares, Store, stored_after, stored_in, swept_cycle, SweptCycle, tells, unmarked_objects, WasCounted, Words, words_after, words_in}
 use Rattle.gh_coord.specs.Listing as coord
-use Rattle.gh_lists.specs.declared.handshake.Actor.TheVariants as actor
-use Rattle.gh_lists.specs.Counts.{stored_after, stored_in}
-use Rattle.gh_world.specs.Vocabulary.{acks_of, Coordinating, CoordStage, Cycle, Entry, Layout, Legal, Op, Program, Words, words_after}
-use Rattle.gh_world.specs.RunVocabulary.{actor_after, alloc_words, AllWereCounted, Ask, Cell, cycles_in, Done, effect, ended_by, EndsCycle, generation_after, IsStartOf, mark_words, marked_objects, opened_in, Outside, pacing_of, Part, part_of, setting_of, swept_cycle, SweptCycle, unmarked_objects, WasCounted, words_in}
-use Rattle.gh_lists.specs.Starts.{legal_start}
-use Rattle.gh_lists.specs.Frames.{numbers_of}
-use Rattle.gh_lists.specs.Parts.{At, own_counts}
 use Rattle.gh_explained.proofs.Explained.Known.{Changes, changes, counted, Known}
 use Rattle.gh_explained.proofs.Explained.Acting.{one_more_at}
-use Rattle.gh_lists.specs.Changes.{begins, ends, same, Spares, tells}
-use Rattle.gh_world.specs.World.{setup_of}
 
 -- ---- of lists
 
@@ -41,14 +30,14 @@ same_elements f (x ∷ xs) (y ∷ ys) long h =
 
 -- ---- which steps end a cycle
 
-none_stored : (l : Layout) (v : Words) (c : Cell) (value : ℕ) → (c ≡ cell.Gen → ⊥) → ended_by l v (Store c value) ≡ []
+none_stored : (l : Layout) (v : Words) (c : Cell) (value : ℕ) → (c ≡ Cell.Gen → ⊥) → ended_by l v (Store c value) ≡ []
 none_stored l v c value ne = grind arith
 
 -- whoever spares the generation stores none
-spares_none : (value : ℕ) → Spares (Store cell.Gen value) → ⊥
+spares_none : (value : ℕ) → Spares (Store Cell.Gen value) → ⊥
 spares_none value s = let no : value ≡ suc value = s.gen (λ c. suc value) in omega (arith, no)
 
-not_gen : (c : Cell) (value : ℕ) → Spares (Store c value) → c ≡ cell.Gen → ⊥
+not_gen : (c : Cell) (value : ℕ) → Spares (Store c value) → c ≡ Cell.Gen → ⊥
 not_gen c value s e = spares_none value (subst (λ (d : Cell). Spares (Store d value)) e s)
 
 none_ended : (l : Layout) (v : Words) (ask : Ask) → Spares ask → ended_by l v ask ≡ []
@@ -58,15 +47,15 @@ pub is_done : (st : CoordStage) → coord.is_done_at st ≡ true → st ≡ Done
 is_done st e = grind arith
 
 -- as many cycles have ended in a list as it stores the sweep generation
-ended_once : (l : Layout) (w : Words) (ask : Ask) (n : ℕ) → n + length (ended_by l w ask) ≡ stored_after cell.Gen ask n
+ended_once : (l : Layout) (w : Words) (ask : Ask) (n : ℕ) → n + length (ended_by l w ask) ≡ stored_after Cell.Gen ask n
 ended_once l w ask n = grind arith
 
-pub many_ended : (l : Layout) (opening : Words) (es : List (Entry Op)) → length (cycles_in l opening es) ≡ stored_in cell.Gen es
+pub many_ended : (l : Layout) (opening : Words) (es : List (Entry Op)) → length (cycles_in l opening es) ≡ stored_in Cell.Gen es
 many_ended l opening [] = refl
 many_ended l opening (e ∷ es) =
     let rest = many_ended l opening es in
     let both = length-append (cycles_in l opening es) (ended_by l (words_after opening es) e.ask) in
-    both ∙ ended_once l (words_after opening es) e.ask (length (cycles_in l opening es)) ∙ ap (stored_after cell.Gen e.ask) rest
+    both ∙ ended_once l (words_after opening es) e.ask (length (cycles_in l opening es)) ∙ ap (stored_after Cell.Gen e.ask) rest
 
 module _ (p : Program) (l : Layout) (k : Known p l) where
   abbrev words : List (Entry Op) → Words
@@ -81,10 +70,10 @@ module _ (p : Program) (l : Layout) (k : Known p l) where
 
   -- they are numbered from 1 on, and the sweep generation tells how many they are
   record Numbered (es : List (Entry Op)) : Type 0 where
-    many : words es cell.Gen ≡ generation_after (length (ended_in es))
+    many : words es Cell.Gen ≡ generation_after (length (ended_in es))
     each : (i : ℕ) (y : SweptCycle) → slice_get (ended_in es) i ≡ Some y → y.number ≡ suc i
 
-  still : (e : Entry Op) (es : List (Entry Op)) → Numbered es → words (e ∷ es) cell.Gen ≡ words es cell.Gen → ended_by l (words es) e.ask ≡ [] → Numbered (e ∷ es)
+  still : (e : Entry Op) (es : List (Entry Op)) → Numbered es → words (e ∷ es) Cell.Gen ≡ words es Cell.Gen → ended_by l (words es) e.ask ≡ [] → Numbered (e ∷ es)
   still e es h gen none =
       let same : ended_in (e ∷ es) ≡ ended_in es = ap (λ (ys : List SweptCycle). ended_in es ++ ys) none ∙ append-nil (ended_in es) in
       record {
@@ -92,15 +81,15 @@ module _ (p : Program) (l : Layout) (k : Known p l) where
         each = λ i y is. h.each i y (ap (λ (ys : List SweptCycle). slice_get ys i) (sym same) ∙ is);
       }
 
-  one_more : (e : Entry Op) (es : List (Entry Op)) → Numbered es → e.ask ≡ Store cell.Gen (words es cell.Gen + 2) → words es cell.Begun ≡ suc (length (ended_in es)) → Numbered (e ∷ es)
+  one_more : (e : Entry Op) (es : List (Entry Op)) → Numbered es → e.ask ≡ Store Cell.Gen (words es Cell.Gen + 2) → words es Cell.Begun ≡ suc (length (ended_in es)) → Numbered (e ∷ es)
   one_more e es h is number =
-      let more : ended_in (e ∷ es) ≡ ended_in es ++ ended_at (words es cell.Begun) (words es) ∷ [] = ap (λ (q : Ask). ended_in es ++ ended_by l (words es) q) is in
-      let gen : words (e ∷ es) cell.Gen ≡ words es cell.Gen + 2 = ap (λ (q : Ask). effect (words es) q cell.Gen) is in
-      let long : length (ended_in (e ∷ es)) ≡ length (ended_in es) + 1 = ap length more ∙ length-append (ended_in es) (ended_at (words es cell.Begun) (words es) ∷ []) in
+      let more : ended_in (e ∷ es) ≡ ended_in es ++ ended_at (words es Cell.Begun) (words es) ∷ [] = ap (λ (q : Ask). ended_in es ++ ended_by l (words es) q) is in
+      let gen : words (e ∷ es) Cell.Gen ≡ words es Cell.Gen + 2 = ap (λ (q : Ask). effect (words es) q Cell.Gen) is in
+      let long : length (ended_in (e ∷ es)) ≡ length (ended_in es) + 1 = ap length more ∙ length-append (ended_in es) (ended_at (words es Cell.Begun) (words es) ∷ []) in
       let many = h.many in
       record {
         many = omega (arith, gen, long, many);
-        each = λ i y at. elim (one_more_at (ended_in es) (ended_at (words es cell.Begun) (words es)) i y (ap (λ (ys : List SweptCycle). slice_get ys i) (sym more) ∙ at)) [
+        each = λ i y at. elim (one_more_at (ended_in es) (ended_at (words es Cell.Begun) (words es)) i y (ap (λ (ys : List SweptCycle). slice_get ys i) (sym more) ∙ at)) [
           | inl old ↦ h.each i y old
           | inr new ↦ sym (ap (λ (z : SweptCycle). z.number) new.1) ∙ number ∙ ap suc new.0
         ];
@@ -114,8 +103,8 @@ module _ (p : Program) (l : Layout) (k : Known p l) where
   numbered (e ∷ es) legal = by (changes p l k e es legal) (numbered es legal.0) where
     by : Changes p l k e es legal → Numbered es → Numbered (e ∷ es)
     by (same s) h = still e es h (s.gen (words es)) (none_ended l (words es) e.ask s)
-    by (begins is) h = still e es h (ap (λ (q : Ask). effect (words es) q cell.Gen) is) (ap (ended_by l (words es)) is)
-    by (tells x) h = still e es h (ap (λ (q : Ask). effect (words es) q cell.Gen) x.ask_is) (ap (ended_by l (words es)) x.ask_is)
+    by (begins is) h = still e es h (ap (λ (q : Ask). effect (words es) q Cell.Gen) is) (ap (ended_by l (words es)) is)
+    by (tells x) h = still e es h (ap (λ (q : Ask). effect (words es) q Cell.Gen) x.ask_is) (ap (ended_by l (words es)) x.ask_is)
     by (ends x) h = one_more e es h x.ask_is (let n = x.number in let g = x.gen in let many = h.many in omega (arith, n, g, many))
 
   -- ---- a cycle that has ended is among them
@@ -124,26 +113,26 @@ module _ (p : Program) (l : Layout) (k : Known p l) where
   Ending number es = EndsCycle (setup_of p l) number es
 
   -- the entry stores the next sweep generation
-  pub ends_by : (number : ℕ) (e : Entry Op) (es : List (Entry Op)) → Legal (setting_of p l) (e ∷ es) → Ending number (e ∷ es) → (h : ℕ) × (e.ask ≡ Store cell.Gen h)
+  pub ends_by : (number : ℕ) (e : Entry Op) (es : List (Entry Op)) → Legal (setting_of p l) (e ∷ es) → Ending number (e ∷ es) → (h : ℕ) × (e.ask ≡ Store Cell.Gen h)
   ends_by number e es legal x = grind arith
 
   here : (number : ℕ) (e : Entry Op) (es : List (Entry Op)) → Legal (setting_of p l) (e ∷ es) → Ending number (e ∷ es) → slice_get (ended_in (e ∷ es)) (length (ended_in es)) ≡ Some (ended_at number (words (e ∷ es)))
   here number e es legal x = by (changes p l k e es legal) where
-    stores : (h : ℕ) × (e.ask ≡ Store cell.Gen h)
+    stores : (h : ℕ) × (e.ask ≡ Store Cell.Gen h)
     stores = ends_by number e es legal x
 
-    is_it : (y : Coordinating) → actor_after p l es (acks_of l) ≡ actor.Leads y → y.begun ≡ number
-    is_it y led = let both : actor.Leads y ≡ actor.Leads x.lead = sym led ∙ x.led in let same : y ≡ x.lead = cc in ap (λ (c : Coordinating). c.begun) same ∙ x.cycle
+    is_it : (y : Coordinating) → actor_after p l es (acks_of l) ≡ Actor.Leads y → y.begun ≡ number
+    is_it y led = let both : Actor.Leads y ≡ Actor.Leads x.lead = sym led ∙ x.led in let same : y ≡ x.lead = cc in ap (λ (c : Coordinating). c.begun) same ∙ x.cycle
 
     by : Changes p l k e es legal → slice_get (ended_in (e ∷ es)) (length (ended_in es)) ≡ Some (ended_at number (words (e ∷ es)))
     by (same s) = absurd (spares_none stores.0 (subst Spares stores.1 s))
-    by (begins is) = absurd (let no : Store cell.Gen stores.0 ≡ Store cell.Begun (suc (words es cell.Begun)) = sym stores.1 ∙ is in cc)
-    by (tells y) = absurd (let no : Store cell.Gen stores.0 ≡ Store cell.Swept (suc (words es cell.Swept)) = sym stores.1 ∙ y.ask_is in cc)
+    by (begins is) = absurd (let no : Store Cell.Gen stores.0 ≡ Store Cell.Begun (suc (words es Cell.Begun)) = sym stores.1 ∙ is in cc)
+    by (tells y) = absurd (let no : Store Cell.Gen stores.0 ≡ Store Cell.Swept (suc (words es Cell.Swept)) = sym stores.1 ∙ y.ask_is in cc)
     by (ends y) =
-        let value : words es cell.Begun ≡ number = y.number ∙ is_it y.lead y.led in
+        let value : words es Cell.Begun ≡ number = y.number ∙ is_it y.lead y.led in
         let rows : ended_at number (words es) ≡ ended_at number (words (e ∷ es)) = sym (ap (λ (q : Ask). ended_at number (effect (words es) q)) y.ask_is) in
         ap (λ (q : Ask). slice_get (ended_in es ++ ended_by l (words es) q) (length (ended_in es))) y.ask_is
-        ∙ get_last (ended_in es) (ended_at (words es cell.Begun) (words es))
+        ∙ get_last (ended_in es) (ended_at (words es Cell.Begun) (words es))
         ∙ ap (λ (n : ℕ). Some (ended_at n (words es))) value
         ∙ ap Some rows
 
@@ -177,12 +166,12 @@ module _ (p : Program) (l : Layout) (k : Known p l) where
   is_outside c e = grind arith
 
   -- where it is done
-  module _ (es : List (Entry Op)) (c : Coordinating) (legal : Legal (setting_of p l) es) (led : actor_after p l es (acks_of l) ≡ actor.Leads c) (done : coord.is_done_at c.stage ≡ true) where
+  module _ (es : List (Entry Op)) (c : Coordinating) (legal : Legal (setting_of p l) es) (led : actor_after p l es (acks_of l) ≡ Actor.Leads c) (done : coord.is_done_at c.stage ≡ true) where
     pub at_end : At (pacing_of p).room (opened_in es) (numbers_of (words es)) (own_counts c) Outside
     at_end = subst (λ (q : Part). At (pacing_of p).room (opened_in es) (numbers_of (words es)) (own_counts c) q) (is_outside c done) (counted p l k es c legal led)
 
     -- none is left out
-    pub as_many : length c.cycles.items ≡ words es cell.Swept
+    pub as_many : length c.cycles.items ≡ words es Cell.Swept
     as_many = let o = at_end.opened_is in let m = at_end.keeps.many_are in let room = k.roomy es legal in omega (arith, o, m, room)
 
     pub cycles_are : AllWereCounted (setup_of p l) es c → map swept_cycle c.cycles.items ≡ ended_in es

@@ -1,19 +1,6 @@
 -- What the laws of the actors say of a script's run, as its proofs take it.
 use Rattle.std.proofs.Common.{◌≡◌, ◌≤◌, List, ◌∷◌}
-use Rattle.gh_mutator.specs.Acting.{EachOperationActsOnce}
-use Rattle.gh_mutator.specs.Deeds.{OnlyPointsChange}
-use Rattle.gh_lists.specs.LemmaVocabulary.{ProcessorWritesItsOwn}
-use Rattle.gh_worker.specs.Writing.{WorkersWriteTheirOwn}
-use Rattle.gh_lists.specs.declared.handshake.Actor.TheVariants as actor
-use Rattle.gh_lists.specs.Handshake.{KeepsIt}
-use Rattle.gh_coord.specs.Parts.{part_of}
-use Rattle.gh_lists.specs.Numbers.{IsFew, opened_in}
-use Rattle.gh_world.specs.Vocabulary.{Entry, Layout, Op, Program, words_after, Legal, Coordinating, acks_of}
-use Rattle.gh_world.specs.Wishes.{most_cycles}
-use Rattle.gh_world.specs.World.{actor_after, pacing_of, setting_of, setup_of}
-use Rattle.gh_lists.specs.Frames.{numbers_of}
-use Rattle.gh_lists.specs.Parts.{At, own_counts}
-use Rattle.gh_lists.specs.Changes.{Change, Rises, EveryListHasItsNumbers, EveryStepChangesNumbers, NoNumberFalls}
+use Rattle.gh_explained.proofs.Vocabulary.{acks_of, Actor, actor_after, At, Change, Coordinating, EachOperationActsOnce, Entry, EveryListHasItsNumbers, EveryStepChangesNumbers, IsFew, KeepsIt, Layout, Legal, most_cycles, NoNumberFalls, numbers_of, OnlyPointsChange, Op, opened_in, own_counts, pacing_of, part_of, ProcessorWritesItsOwn, Program, Rises, setting_of, setup_of, words_after, WorkersWriteTheirOwn}
 
 pub record Known (p : Program) (l : Layout) : Type 0 where
   pub each : EachOperationActsOnce
@@ -41,6 +28,6 @@ module _ (p : Program) (l : Layout) (k : Known p l) (e : Entry Op) (es : List (E
   rises = k.rises (setup_of p l) e es legal (k.few es legal.0)
 
 -- the numbers of cycles, by the part of the cycle that the coordinator is in
-pub counted : (p : Program) (l : Layout) (k : Known p l) (es : List (Entry Op)) (c : Coordinating) → Legal (setting_of p l) es → actor_after p l es (acks_of l) ≡ actor.Leads c →
+pub counted : (p : Program) (l : Layout) (k : Known p l) (es : List (Entry Op)) (c : Coordinating) → Legal (setting_of p l) es → actor_after p l es (acks_of l) ≡ Actor.Leads c →
     At (pacing_of p).room (opened_in es) (numbers_of (words_after (setting_of p l).opening es)) (own_counts c) (part_of c.stage)
 counted p l k es c legal led = k.numbers (setup_of p l) es c legal (k.few es legal) led

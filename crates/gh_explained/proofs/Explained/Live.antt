@@ -1,26 +1,11 @@
 -- What is live at the end of a run: the objects that the last cycle marked are those that the globals hold, and the bytes that the coordinator keeps are those of their slots.
-use Rattle.std.proofs.Common.{◌≡◌, ◌≢◌, ℕ, zero, suc, ◌+◌, ◌*◌, ◌<◌, inl, inr, Bool, true, false, cond, eq-eqb, refl, sym, ap, subst, ◌∙◌, arith, List, length}
-use Rattle.std.specs.Prelude.{◌/◌, ◌%◌, sum_by}
+use Rattle.std.proofs.Common.{◌≡◌, ◌≢◌, ℕ, zero, suc, ◌+◌, ◌*◌, ◌<◌, inl, inr, Bool, true, false, cond, eq-eqb, refl, sym, ap, subst, ◌∙◌, arith, List, length, ◌/◌, ◌%◌, sum_by}
 use Rattle.std.specs.Int.{bit_at}
 use Rattle.std.proofs.lemmas.Bool.{eqb-false, eqb-true}
 use Rattle.std.proofs.lemmas.Nat.Bits.{bit_at-lt}
-use Rattle.gh_base.specs.Rows.{alloc_words, page_words, Row, row_bit}
-use Rattle.gh_heap.specs.Objects.{IsMade, size_for}
-use Rattle.gh_state.specs.Slots.{slot_row, SlotsAreRead}
-use Rattle.gh_sweep.specs.Bits.{SetBitsAreCounted, sum_below}
-use Rattle.gh_sweep.specs.Counts.{AreWords, count_below, is_set}
+use Rattle.gh_explained.proofs.Vocabulary.{alloc_words, AllStands, arena_of, AreNamed, AreWords, by_words, bytes_of, Classes, count_below, each_once, Entry, Ever, ever_after_list, in_arena, InArena, is_listed, is_placed, is_set, IsAmong, IsMade, IsPlacedAt, Layout, Legal, listed, lists, ListStands, many_are, Name, name_at, Once, Op, page_words, Program, Reach, Row, row_bit, same_or_not, SetBitsAreCounted, setting_of, setup_of, size_for, slot_row, SlotsAreRead, sum_below, sum_is, sum_same, sum_times, Words, words_in}
 use Rattle.gh_sweep.specs.Shared.{placed, placed_in}
-use Rattle.gh_law.specs.Names.{IsAmong}
-use Rattle.gh_world.specs.Cycles.{bytes_of}
-use Rattle.gh_lists.specs.Processors.{arena_of, ever_after_list, IsPlacedAt, ListStands}
-use Rattle.gh_world.specs.Runs.{words_in}
-use Rattle.gh_world.specs.Below.{AllStands}
-use Rattle.gh_world.specs.Vocabulary.{Entry, Ever, Layout, Legal, Op, Program, Reach, Words, Name}
-use Rattle.gh_world.specs.World.{setting_of, setup_of}
 use Rattle.gh_explained.proofs.Explained.Known.{Known}
-use Rattle.gh_law.proofs.Named.Listing.{each_once, is_listed, listed, lists, many_are, Once, sum_is}
-use Rattle.gh_lists.specs.SumsBelow.{by_words, sum_same, sum_times}
-use Rattle.gh_law.proofs.Named.Slots.{AreNamed, Classes, in_arena, InArena, is_placed, name_at, same_or_not}
 
 -- ---- the bits of alloc words
 

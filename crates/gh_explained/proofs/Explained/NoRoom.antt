@@ -1,20 +1,13 @@
 -- Whichever operation is answered `full`, it acted where there was no room, and had waited for a cycle.
 use Rattle.std.proofs.Common.{◌≡◌, ℕ, Bool, true, false, List, ◌∷◌, refl, inl, ◌∙◌, arith}
-use Rattle.gh_world.specs.Vocabulary.{Act, acts, answer_of, Entry, Ever, Layout, Legal, Op, Program, Shape}
-use Rattle.gh_base.specs.declared.value.Answer.TheVariants as answer
-use Rattle.gh_law.specs.Actors.{Awaits}
-use Rattle.gh_lists.specs.Order.{Answered}
-use Rattle.gh_world.specs.RunVocabulary.{arena_of, before_step, ever_of, FoundNoRoom, FullMeansNoRoom, FullOnlyThere, setting_of}
-use Rattle.gh_world.proofs.Explained.Acted.{full_there}
+use Rattle.gh_explained.proofs.Vocabulary.{Act, acts, Answer, answer_of, Answered, arena_of, Awaits, before_step, Entry, Ever, ever_of, FoundNoRoom, full_pointed, full_there, FullMeansNoRoom, FullOnlyThere, Layout, Legal, Op, Program, setting_of, setup_of, Shape}
 use Rattle.gh_explained.proofs.Explained.Acting.{acts_there, ActsThere, pointed}
-use Rattle.gh_world.proofs.Explained.Steps.{full_pointed}
-use Rattle.gh_world.specs.World.{setup_of}
 
-ever_no_full : (shapes : List Shape) (e : Ever) (o : Op) → answer_of shapes e o ≡ answer.Full → ⊥
+ever_no_full : (shapes : List Shape) (e : Ever) (o : Op) → answer_of shapes e o ≡ Answer.Full → ⊥
 ever_no_full shapes e o full = grind arith
 
 module _ (p : Program) (l : Layout) (awaits : (es : List (Entry Op)) → Legal (setting_of p l) es → Awaits (setup_of p l) es) where
-  found_none : (es : List (Entry Op)) (i : ℕ) (x : Answered) (full : Bool) → ActsThere p l es i x full → x.answer ≡ answer.Full → FoundNoRoom p l es i x.op
+  found_none : (es : List (Entry Op)) (i : ℕ) (x : Answered) (full : Bool) → ActsThere p l es i x full → x.answer ≡ Answer.Full → FoundNoRoom p l es i x.op
   found_none es i x true t is =
       let s = t.step in
       let m = before_step p.shapes l s.before s.entry in

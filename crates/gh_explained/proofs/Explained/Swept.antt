@@ -1,16 +1,10 @@
 -- Whichever operation is a `gc`, it is answered `swept`, and had waited for a cycle.
 use Rattle.std.proofs.Common.{◌≡◌, ℕ, Bool, true, false, List, ◌∷◌, refl, sym, ap, subst, inl, ◌∙◌}
-use Rattle.gh_world.specs.Vocabulary.{Act, acts, answer_of, Entry, has_point, Layout, Legal, Op, Program}
-use Rattle.gh_base.specs.declared.operation.Op.TheVariants as op
-use Rattle.gh_law.specs.Actors.{Awaits}
-use Rattle.gh_lists.specs.Order.{Answered}
-use Rattle.gh_world.specs.RunVocabulary.{arena_of, before_step, EachGcWaits, ever_of, FoundSwept, FullOnlyThere, IsFullFor, setting_of, words_in}
-use Rattle.gh_world.proofs.Explained.Acted.{full_there}
+use Rattle.gh_explained.proofs.Vocabulary.{Act, acts, answer_of, Answered, arena_of, Awaits, before_step, EachGcWaits, Entry, ever_of, FoundSwept, full_there, FullOnlyThere, has_point, IsFullFor, Layout, Legal, Op, Program, setting_of, setup_of, words_in}
 use Rattle.gh_explained.proofs.Explained.Acting.{acts_there, ActsThere, pointed}
-use Rattle.gh_world.specs.World.{setup_of}
 
 module _ (p : Program) (l : Layout) (awaits : (es : List (Entry Op)) → Legal (setting_of p l) es → Awaits (setup_of p l) es) where
-  found_swept : (es : List (Entry Op)) (i g : ℕ) (x : Answered) (full : Bool) → ActsThere p l es i x full → x.op ≡ op.Gc g → FoundSwept p l es i x
+  found_swept : (es : List (Entry Op)) (i g : ℕ) (x : Answered) (full : Bool) → ActsThere p l es i x full → x.op ≡ Op.Gc g → FoundSwept p l es i x
   found_swept es i g x false t is =
       let s = t.step in
       let m = before_step p.shapes l s.before s.entry in

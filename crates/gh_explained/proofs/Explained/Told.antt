@@ -1,22 +1,8 @@
 -- Each statement's answer is given at its end: what the statements of a processor are given are the answers of its operations with a point, statement by statement.
-use Rattle.std.proofs.Common.{◌≡◌, ℕ, suc, ◌<◌, Bool, true, false, not, cond, eqb, ◌&&◌, List, [], ◌∷◌, ◌++◌, map, length, reverse, Option, Some, None, refl, sym, ap, subst, ◌∙◌, append_assoc, arith, inl, inr}
-use Rattle.std.specs.Prelude.{is_some}
-use Rattle.std.specs.Option.{option_to_list}
-use Rattle.std.specs.List.{filter}
-use Rattle.std.proofs.lemmas.Bool.{cases_lt}
-use Rattle.std.proofs.lemmas.List.{append-nil, length-reverse}
+use Rattle.std.proofs.Common.{◌≡◌, ℕ, suc, ◌<◌, Bool, true, false, not, cond, eqb, ◌&&◌, List, [], ◌∷◌, ◌++◌, map, length, reverse, Option, Some, None, refl, sym, ap, subst, ◌∙◌, append_assoc, arith, inl, inr, is_some}
+use Rattle.std.proofs.lemmas.List.{append-nil}
 use Rattle.std.proofs.lemmas.List.Elements.{filter-append}
-use Rattle.gh_world.specs.Vocabulary.{Answer, by, deeds, Entry, given_by, gives_at, is_busy_at, is_serving, is_statement, Layout, Legal, Op, Processor, processor_kind, Program, started, state_of, takes}
-use Rattle.gh_mutator.specs.Deeds.{given_at, has_point}
-use Rattle.gh_mutator.specs.Listing.{gives}
-use Rattle.gh_lists.specs.Order.{Answered, before_step, begun_in}
-use Rattle.gh_world.specs.Runs.{answers_at, answers_given}
-use Rattle.gh_world.specs.Turns.{answers_to, is_of_seat, its_goroutine}
-use Rattle.gh_world.specs.World.{answer_in, now_in, setting_of, with_goroutine}
-use Rattle.gh_world.proofs.StepFacts.{step_facts}
-use Rattle.gh_world.proofs.Explained.Acted.{begun_aside, reverse_more}
-use Rattle.gh_world.proofs.Explained.Seats.{all_its, AreOf, its_seat, not_another}
-use Rattle.gh_world.proofs.Explained.Steps.{given_is, is_pointed, IsAnothers, IsItsOwn, its_own, no_processors, statement_pointed, stays_pointed, who_steps}
+use Rattle.gh_explained.proofs.Vocabulary.{all_its, Answer, answer_in, Answered, answers_at, answers_given, answers_to, AreOf, before_step, begun_aside, begun_in, by, cases_lt, deeds, Entry, filter, given_at, given_by, given_is, gives, gives_at, has_point, is_busy_at, is_of_seat, is_pointed, is_serving, is_statement, IsAnothers, IsItsOwn, its_goroutine, its_own, its_seat, Layout, Legal, length-reverse, no_processors, not_another, now_in, Op, option_to_list, Processor, processor_kind, Program, reverse_more, setting_of, started, state_of, statement_pointed, stays_pointed, step_facts, takes, who_steps, with_goroutine}
 
 -- an answer, where the operation is a statement
 abbrev told : Op → Answer → List (ℕ × Answer)

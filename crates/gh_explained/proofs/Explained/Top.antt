@@ -1,27 +1,12 @@
 -- Whatever the script, and whatever run of it: what it is answered and what its coordinator tells is explained.
 use Rattle.std.proofs.Common.{◌≡◌, ℕ, ◌+◌, ◌*◌, ◌%◌, ◌^◌, ◌<◌, ◌≤◌, true, List, [], ◌∷◌, length, map, reverse, refl, sym, ap, subst, ◌∙◌, arith, inl, inr}
-use Rattle.std.specs.List.{filter}
-use Rattle.std.proofs.lemmas.Bool.{cases_lt}
-use Rattle.gh_base.specs.declared.cell.Cell.TheVariants as cell
+use Rattle.gh_explained.proofs.Vocabulary.{Acted, acted_all, acted_in, acted_ops, Actor, actor_after, acts, AllStands, Answered, answers_given, answers_in, AreLive, arena_of, Awaits, before_step, cases_lt, Cell, Classes, Coordinating, CoordStage, count-le, count_of, CreditIsTold, CyclesHaveRoom, Done, EachOperationActsOnce, Entry, Ever, ever_after_list, ever_is, ever_of, EverValue, EveryListHasItsNumbers, EveryListKeepsIt, EveryListOfAScriptStands, EveryRunIsExplained, EveryStepChangesNumbers, few_in_all, few_of_lists, filter, given_for, has_ended, is_statement_of, IsExplained, IsHeldByGlobals, IsMade, IsRun, IsStartOf, lapsed_at, Layout, LaysOut, LeavesTheReached, Legal, map-reverse, Name, none_beyond, NoNumberFalls, OnlyPointsChange, Op, opening_ever, ops_in, order_of, outcome_by, ProcessorWritesItsOwn, Program, Reach, SetBitsAreCounted, setting_of, setup_of, shapes_good, SlotsAreRead, spent_after, statement_as_op, statements_of, stored_in, swept_cycle, total_of, WellFormed, wishes_of, WorkersWriteTheirOwn}
 use Rattle.gh_coord.specs.Handshake as leading
 use Rattle.gh_coord.specs.Listing as coord
-use Rattle.gh_coord.specs.Listing.{lapsed_at}
-use Rattle.gh_model.specs.declared.EverValue.TheVariants as values
-use Rattle.gh_lists.specs.declared.handshake.Actor.TheVariants as actor
-use Rattle.gh_law.specs.Actors.{Awaits}
-use Rattle.gh_lists.specs.Counts.{stored_in}
 use Rattle.gh_law.specs.Credit.{CreditStands, EveryListBalances, lapsed_in, spent_in}
-use Rattle.gh_lists.specs.Order.{acted_in, Answered}
-use Rattle.gh_world.specs.Runs.{CreditIsTold, spent_after}
-use Rattle.gh_world.specs.Vocabulary.{acts, Coordinating, Entry, Ever, Layout, Legal, Name, Op, opening_ever, Program, Reach, statements_of, WellFormed, CoordStage}
-use Rattle.gh_world.specs.Runs.{CyclesHaveRoom}
-use Rattle.gh_world.specs.RunVocabulary.{actor_after, AllStands, answers_given, AreFew, AreLive, arena_of, before_step, count_of, CyclesAreFew, EachOperationActsOnce, ever_after_list, ever_of, EveryListKeepsIt, EveryListOfAScriptStands, EveryRunIsExplained, has_ended, is_statement_of, IsExplained, IsHeldByGlobals, IsMade, IsRun, IsStartOf, LaysOut, LeavesTheReached, OnlyPointsChange, statement_as_op, order_of, outcome_by, ProcessorsBeginFew, ProcessorWritesItsOwn, SetBitsAreCounted, setting_of, SlotsAreRead, total_of, wishes_of, WorkersWriteTheirOwn, swept_cycle, Done}
+use Rattle.gh_world.specs.RunVocabulary.{AreFew, CyclesAreFew, ProcessorsBeginFew}
 use Rattle.gh_world.proofs.Asking.{asked_of}
-use Rattle.gh_world.proofs.EachOnce.{acted_ops, none_beyond}
-use Rattle.gh_world.proofs.OfScripts.{are_few as few_of_lists, few_in_all, shapes_good}
-use Rattle.gh_world.proofs.Turning.{count-le}
 use Rattle.gh_world.proofs.Wishing.{filter_few}
-use Rattle.gh_world.proofs.Explained.Acted.{Acted, acted_all, answers_in, ever_is, map-reverse, ops_in}
 use Rattle.gh_explained.proofs.Explained.Answers as answers
 use Rattle.gh_explained.proofs.Explained.Beyond.{all_leave, held_at_end}
 use Rattle.gh_explained.proofs.Explained.Cycles.{cycles_are, is_done, many_ended}
@@ -30,11 +15,8 @@ use Rattle.gh_explained.proofs.Explained.Live.{OfEveryList}
 use Rattle.gh_lists.specs.Made.{grows, made_all}
 use Rattle.gh_law.proofs.Named.Naming.{IsNamed, named-acted, named-opening, reached-made}
 use Rattle.gh_explained.proofs.Explained.NoRoom.{full_means}
-use Rattle.gh_law.proofs.Named.Slots.{Classes}
 use Rattle.gh_explained.proofs.Explained.Swept.{gcs_wait}
 use Rattle.gh_explained.proofs.Explained.Totals.{are_live}
-use Rattle.gh_lists.specs.Changes.{EveryListHasItsNumbers, EveryStepChangesNumbers, NoNumberFalls}
-use Rattle.gh_world.specs.World.{given_for, setup_of}
 
 pub record Laws : Type 0 where
   pub every : EveryListOfAScriptStands
@@ -113,7 +95,7 @@ module _ (laws : Laws) (p : Program) (l : Layout) (formed : WellFormed p) (out :
       omega (arith, up, first, then, lt)
 
   -- ---- at the end of a run
-  module _ (es : List (Entry Op)) (c : Coordinating) (run : IsRun p l es) (led : actor_after p l es (l.procs + l.workers) ≡ actor.Leads c) where
+  module _ (es : List (Entry Op)) (c : Coordinating) (run : IsRun p l es) (led : actor_after p l es (l.procs + l.workers) ≡ Actor.Leads c) where
     stands : AllStands (setup_of p l) es
     stands = every es run.legal
 
@@ -133,7 +115,7 @@ module _ (laws : Laws) (p : Program) (l : Layout) (formed : WellFormed p) (out :
     mine : (g : ℕ) → filter (is_statement_of g) (reverse (ops_in p l es)) ≡ map (statement_as_op g) (statements_of p g)
     mine g = ap (filter (is_statement_of g)) (sym ops) ∙ sym (acted_ops p g (acted_in p.shapes l es)) ∙ answers.mine p l out.procs_are laws.each laws.points es run stands.stands g
 
-    beyond : (g d : ℕ) → l.goroutines ≤ g → (ever es).register g d ≡ values.Nil
+    beyond : (g d : ℕ) → l.goroutines ≤ g → (ever es).register g d ≡ EverValue.Nil
     beyond g d le =
         let past : length p.goroutines ≤ g = let is = out.goroutines_are in omega (arith, le, is) in
         let none : filter (is_statement_of g) (reverse (ops_in p l es)) ≡ [] = mine g ∙ ap (map (statement_as_op g)) (none_beyond p g past) in
@@ -169,7 +151,7 @@ module _ (laws : Laws) (p : Program) (l : Layout) (formed : WellFormed p) (out :
         let counted = stands.globals c led in
         let parts = counted.parts in
         let once = counted.once (subst (λ (q : CoordStage). leading.Marks q → ⊥) (sym at_end) (λ x. x)) in
-        let as_many : length (map swept_cycle c.cycles.items) * l.globals ≡ stored_in cell.Gen es * l.globals = ap (λ (n : ℕ). n * l.globals) (ap {B = ℕ} length (cycles_are p l known es c run.legal led done (stands.counts c led)) ∙ many_ended l (setting_of p l).opening es) in
+        let as_many : length (map swept_cycle c.cycles.items) * l.globals ≡ stored_in Cell.Gen es * l.globals = ap (λ (n : ℕ). n * l.globals) (ap {B = ℕ} length (cycles_are p l known es c run.legal led done (stands.counts c led)) ∙ many_ended l (setting_of p l).opening es) in
         -- the sums are far below the end of a word
         let all : (spent_after p l es + c.lapsed) % 2 ^ 64 ≡ spent_in es + lapsed_in es = omega (arith, lapsed, balanced, drawn, empty, left, scanned, few) in
         let spent : spent_after p l es % 2 ^ 64 ≡ spent_in es = omega (arith, lapsed, balanced, drawn, empty, left, scanned, few) in

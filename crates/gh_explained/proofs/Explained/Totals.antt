@@ -1,24 +1,16 @@
 -- The last numbers of a run: how many objects are live, and how many bytes.
-use Rattle.std.proofs.Common.{◌≡◌, ℕ, ◌+◌, ◌*◌, ◌^◌, ◌-◌, ◌<◌, ◌≤◌, Bool, true, ◌&&◌, sym, ap, subst, ◌∙◌, arith, List, [], ◌∷◌, get_or, length, Some, inr}
-use Rattle.std.specs.Prelude.{◌↔◌, slice_get}
+use Rattle.std.proofs.Common.{◌≡◌, ℕ, ◌+◌, ◌*◌, ◌^◌, ◌-◌, ◌<◌, ◌≤◌, Bool, true, ◌&&◌, sym, ap, subst, ◌∙◌, arith, List, [], ◌∷◌, get_or, length, Some, inr, ◌↔◌, slice_get}
 use Rattle.std.proofs.lemmas.Bool.{eqb-true}
 use Rattle.std.proofs.lemmas.Option.{slice_get-get_or}
-use Rattle.gh_base.specs.declared.cell.Cell.TheVariants as cell
+use Rattle.gh_explained.proofs.Vocabulary.{acks_of, Actor, actor_after, alloc_words, AllStands, are_apart, AreLive, arena_of, AreNamed, Ask, bit, by_field, by_global, Cell, Coordinating, Cycle, effect, EndsCycle, Entry, Ever, ever_after_list, from_field, from_global, is_made, is_placed, is_set, IsAmong, IsHeldByGlobals, IsMade, IsMarkedObject, IsPlacedAt, IsStartOf, Layout, LeavesTheReached, Legal, legal_start, mark_words, marked_by, marked_objects, Name, name_at, no_more, Op, page_words, Program, Reach, row_bit, setting_of, setup_of, slot_row, start_of_start, sum_same, whole, Words, words_in}
 use Rattle.gh_coord.specs.Listing as coord
-use Rattle.gh_lists.specs.declared.handshake.Actor.TheVariants as actor
-use Rattle.gh_world.specs.Vocabulary.{acks_of, bit, Coordinating, Cycle, Entry, Ever, Layout, Legal, Name, Op, Program, Reach, row_bit, Words}
-use Rattle.gh_world.specs.RunVocabulary.{actor_after, alloc_words, AllStands, AreLive, arena_of, Ask, by_field, by_global, effect, EndsCycle, ever_after_list, from_field, from_global, is_set, IsAmong, IsHeldByGlobals, IsMade, IsMarkedObject, IsPlacedAt, IsStartOf, last_kept, LeavesTheReached, mark_words, marked_by, marked_objects, page_words, setting_of, slot_row, words_in}
-use Rattle.gh_lists.specs.Starts.{legal_start, start_of_start, whole}
+use Rattle.gh_world.specs.RunVocabulary.{last_kept}
 use Rattle.gh_explained.proofs.Explained.Cycles.{as_many, at_end, ends_by, is_done}
 use Rattle.gh_explained.proofs.Explained.Last.{some_swept}
-use Rattle.gh_law.proofs.Named.Listing.{are_apart, no_more}
-use Rattle.gh_lists.specs.SumsBelow.{sum_same}
 use Rattle.gh_explained.proofs.Explained.Live as live
 use Rattle.gh_explained.proofs.Explained.Live.{bytes_by_bits, OfEveryList, set_is}
 use Rattle.gh_lists.specs.Names.{same_birth_same_name}
 use Rattle.gh_lists.specs.Resting.{ever_stays}
-use Rattle.gh_law.proofs.Named.Slots.{AreNamed, is_made, is_placed, name_at}
-use Rattle.gh_world.specs.World.{setup_of}
 
 reached_of_held : (e : Ever) (n : Name) → IsHeldByGlobals e n → Reach e n
 reached_of_held e n (by_global i m is) = from_global i m is
@@ -128,12 +120,12 @@ module _ (p : Program) (l : Layout) (every : OfEveryList p l) where
           ∙ as_marked
 
   -- ---- at the end of a run
-  module _ (es : List (Entry Op)) (c : Coordinating) (legal : Legal (setting_of p l) es) (led : actor_after p l es (acks_of l) ≡ actor.Leads c) (done : coord.is_done_at c.stage ≡ true)
+  module _ (es : List (Entry Op)) (c : Coordinating) (legal : Legal (setting_of p l) es) (led : actor_after p l es (acks_of l) ≡ Actor.Leads c) (done : coord.is_done_at c.stage ≡ true)
       (held : (n : Name) → Reach (ever es) n → IsHeldByGlobals (ever es) n) (grows : (start : List (Entry Op)) → IsStartOf start es → (n : Name) → IsMade (ever start).made n → IsMade (ever es).made n) (few : (n : Name) → IsMade (ever es).made n → n.k < 2 ^ 32) where
     abbrev stands : AllStands (setup_of p l) es
     stands = every.stands es legal
 
-    some : 1 ≤ words es cell.Swept
+    some : 1 ≤ words es Cell.Swept
     some = some_swept p l every.known es c legal led (is_done c.stage done)
 
     last : LeavesTheReached (setup_of p l) es c
@@ -148,7 +140,7 @@ module _ (p : Program) (l : Layout) (every : OfEveryList p l) where
     abbrev newest : Cycle
     newest = get_or c.cycles.items (length c.cycles.items - 1) filler
 
-    long : length c.cycles.items ≡ words es cell.Swept
+    long : length c.cycles.items ≡ words es Cell.Swept
     long = as_many p l every.known es c legal led done
 
     is_newest : slice_get c.cycles.items (length c.cycles.items - 1) ≡ Some newest

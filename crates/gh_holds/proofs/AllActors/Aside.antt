@@ -1,39 +1,15 @@
 -- Steps of workers and of the coordinator outside of marking: they are those of sweeps, or write no row of which anything is said of the heap, its spans, stacks and buffers.
 use Rattle.std.proofs.Common.{◌≡◌, ◌⊎◌, ℕ, ◌<◌, ◌≤◌, ◌==◌, Bool, true, false, refl, sym, ap, subst, ◌∙◌, arith, List, ◌∷◌, None, ◌≢◌, ◌↔◌, Option, Some}
-use Rattle.std.proofs.lemmas.Bool.Decides.{nat_tests}
-use Rattle.gh_base.specs.declared.cell.Ask.{Ask}
-use Rattle.gh_base.specs.declared.cell.Cell.{Cell}
-use Rattle.gh_base.specs.declared.cell.Cell.TheVariants as cell
-use Rattle.gh_base.specs.declared.pack.TheConstants.{END}
-use Rattle.gh_base.specs.declared.layout.Layout.{Layout}
-use Rattle.gh_base.specs.Cells.{Words, seats_of}
-use Rattle.gh_base.specs.Footprints.{Footprint, FootprintsHold, row_of, Writes}
+use Rattle.std.proofs.lemmas.Bool.{eqb-true}
+use Rattle.gh_holds.proofs.Vocabulary.{Actor, actors_after, Arena, arena, Ask, Cell, cell_of, effect, END, Entry, Ever, ever_stays, Footprint, FootprintsHold, Freeing, GoesOn, HasState, Heap, IsAsideCell, IsBounded, IsHeapOf, IsInSweep, IsOff, Known, Laying, Layout, Legal, MarksNothing, nat_tests, NobodyMarks, on_from, Op, other, Others, Processor, processor_at, Quiet, Right, Row, row_of, seats_of, SeatSweepsNothing, Setup, State, state_stays, StateGood, sweep_of, Sweeping, SweepStage, those, uncounted, view, Words, Writes}
 use Rattle.gh_base.specs.Footprints as row
-use Rattle.gh_base.specs.Steps.{effect, cell_of}
-use Rattle.gh_base.specs.Rows.{Row}
-use Rattle.gh_heap.specs.Moves.{IsAside as IsAsideCell, IsQuiet, Others, Quiet}
-use Rattle.gh_heap.specs.Spans.{Freeing, Laying}
-use Rattle.gh_lists.specs.Handshake.{those, Setup}
+use Rattle.gh_heap.specs.Moves.{IsQuiet}
 use Rattle.gh_state.specs.Moves as state
 use Rattle.gh_state.specs.Moves.{Deed}
-use Rattle.gh_state.specs.Routines.{GoesOn}
-use Rattle.gh_sweep.specs.declared.sweep.SweepStage.{SweepStage}
 use Rattle.gh_sweep.specs.Listing as sweep
-use Rattle.gh_sweep.specs.Listing.{Sweeping}
-use Rattle.gh_sweep.specs.Running.{on_from}
-use Rattle.gh_lists.specs.declared.handshake.Actor.{Actor}
-use Rattle.gh_holds.specs.ActorsHold.{IsOff, NobodyMarks}
-use Rattle.gh_marked.specs.State.{HasState, IsHeapOf, processor_at}
-use Rattle.gh_marked.specs.HeapBytes.{uncounted}
-use Rattle.gh_marked.specs.HoldVocabulary.{actors_after, arena, Arena, Entry, Ever, Heap, IsBounded, Legal, MarksNothing, Op, Processor, Right, SeatSweepsNothing, State, StateGood, view}
-use Rattle.gh_marked.specs.Sweepers.{IsInSweep, sweep_of}
-use Rattle.gh_marked.specs.Known.{Known}
 use Rattle.gh_marked.proofs.OneStep.Moves.{moves_on}
-use Rattle.gh_lists.specs.Resting.{ever_stays, state_stays}
 use Rattle.gh_marked.proofs.OneStep.Sweepers as sweepers
 use Rattle.gh_marked.proofs.OneStep.Sweepers.{rests_on}
-use Rattle.gh_lists.specs.Seats.{other}
-use Rattle.std.proofs.lemmas.Bool.{eqb-true}
 
 -- The rows that a step beside the heap may write: of no other is anything said of the heap, its spans and stacks. It may be on marks, buffers and counts.
 abbrev pub beside_rows : Footprint
@@ -95,8 +71,8 @@ module _ (k : FootprintsHold) (ask : Ask) (tells : TellsNothing ask) where
   pub beside_of : IsBeside ask
   beside_of = k.among telling_rows beside_rows ask refl tells
 
-  pub keeps_buffers : (w : Words) (i : ℕ) → effect w ask (cell.Buffer i) ≡ w (cell.Buffer i)
-  keeps_buffers w i = k.leaves telling_rows ask w (cell.Buffer i) tells refl
+  pub keeps_buffers : (w : Words) (i : ℕ) → effect w ask (Cell.Buffer i) ≡ w (Cell.Buffer i)
+  keeps_buffers w i = k.leaves telling_rows ask w (Cell.Buffer i) tells refl
 
 module _ (setup : Setup) (known : Known) where
   abbrev z : Arena
@@ -127,9 +103,9 @@ module _ (setup : Setup) (known : Known) where
       pub words_are : (state.moved z a s move).heap.words ≡ effect h.words e.ask
       pub ever_is : (state.moved z a s move).heap.ever ≡ h.ever
       pub right : Right a (view h) false (λ p. false) None → Right a (view (state.moved z a s move).heap) false (λ p. false) None
-      pub scanned : (i : ℕ) → (state.moved z a s move).heap.words (cell.Scanned i) ≡ h.words (cell.Scanned i)
-      pub global : (i : ℕ) → (state.moved z a s move).heap.words (cell.Global i) ≡ h.words (cell.Global i)
-      pub birth : (i : ℕ) → (state.moved z a s move).heap.words (cell.Birth i) ≡ h.words (cell.Birth i)
+      pub scanned : (i : ℕ) → (state.moved z a s move).heap.words (Cell.Scanned i) ≡ h.words (Cell.Scanned i)
+      pub global : (i : ℕ) → (state.moved z a s move).heap.words (Cell.Global i) ≡ h.words (Cell.Global i)
+      pub birth : (i : ℕ) → (state.moved z a s move).heap.words (Cell.Birth i) ≡ h.words (Cell.Birth i)
       pub pend : (state.moved z a s move).pend ≡ s.pend
       pub sweeps : IsInSweep a (state.moved z a s move) swept_then
 
@@ -152,10 +128,10 @@ module _ (setup : Setup) (known : Known) where
         seat = legal.1.actor;
         may = quiet_of e.ask aside;
         counts = record {
-          heap = known.footprints.leaves beside_rows e.ask h.words cell.Heap aside refl;
-          tally = λ over. known.footprints.leaves telling_rows e.ask h.words cell.Tally (leaves over) refl;
-          live = λ over. known.footprints.leaves telling_rows e.ask h.words cell.Live (leaves over) refl;
-          marks = λ over i. known.footprints.leaves telling_rows e.ask h.words (cell.Mark i) (leaves over) refl;
+          heap = known.footprints.leaves beside_rows e.ask h.words Cell.Heap aside refl;
+          tally = λ over. known.footprints.leaves telling_rows e.ask h.words Cell.Tally (leaves over) refl;
+          live = λ over. known.footprints.leaves telling_rows e.ask h.words Cell.Live (leaves over) refl;
+          marks = λ over i. known.footprints.leaves telling_rows e.ask h.words (Cell.Mark i) (leaves over) refl;
         };
       }
 
@@ -173,9 +149,9 @@ module _ (setup : Setup) (known : Known) where
         words_are = refl;
         ever_is = refl;
         right = λ r. record { locked = r.locked; holds = r.holds; laying = r.laying; freeing = r.freeing };
-        scanned = λ i. known.footprints.leaves beside_rows e.ask h.words (cell.Scanned i) aside refl;
-        global = λ i. known.footprints.leaves beside_rows e.ask h.words (cell.Global i) aside refl;
-        birth = λ i. known.footprints.leaves beside_rows e.ask h.words (cell.Birth i) aside refl;
+        scanned = λ i. known.footprints.leaves beside_rows e.ask h.words (Cell.Scanned i) aside refl;
+        global = λ i. known.footprints.leaves beside_rows e.ask h.words (Cell.Global i) aside refl;
+        birth = λ i. known.footprints.leaves beside_rows e.ask h.words (Cell.Birth i) aside refl;
         pend = refl;
         sweeps = sweeps;
       }
@@ -218,15 +194,15 @@ module _ (setup : Setup) (known : Known) where
           laying = ap (λ (x : ℕ → Option Laying). x a) sweep_goes.keeps.laying ∙ r.laying;
           freeing = ap (λ (x : ℕ → Option Freeing). x a) sweep_goes.keeps.freeing ∙ r.freeing;
         };
-        scanned = λ i. ap (λ (w : Words). w (cell.Scanned i)) sweep_words ∙ known.footprints.leaves spans_rows e.ask h.words (cell.Scanned i) only refl;
-        global = λ i. ap (λ (w : Words). w (cell.Global i)) sweep_words ∙ known.footprints.leaves spans_rows e.ask h.words (cell.Global i) only refl;
-        birth = λ i. ap (λ (w : Words). w (cell.Birth i)) sweep_words ∙ known.footprints.leaves spans_rows e.ask h.words (cell.Birth i) only refl;
+        scanned = λ i. ap (λ (w : Words). w (Cell.Scanned i)) sweep_words ∙ known.footprints.leaves spans_rows e.ask h.words (Cell.Scanned i) only refl;
+        global = λ i. ap (λ (w : Words). w (Cell.Global i)) sweep_words ∙ known.footprints.leaves spans_rows e.ask h.words (Cell.Global i) only refl;
+        birth = λ i. ap (λ (w : Words). w (Cell.Birth i)) sweep_words ∙ known.footprints.leaves spans_rows e.ask h.words (Cell.Birth i) only refl;
         pend = (sweepers.rows_stay known z a s m m.stage e.found).pend;
         sweeps = sweepers.sweeps_on known z a s has.good seat m runs e.found found_is swept_then then_is;
       }
 
-      pub sweep_buffers : (b : ℕ) → sweep_state.heap.words (cell.Buffer b) ≡ h.words (cell.Buffer b)
-      sweep_buffers b = ap (λ (w : Words). w (cell.Buffer b)) sweep_words ∙ known.footprints.leaves spans_rows e.ask h.words (cell.Buffer b) only refl
+      pub sweep_buffers : (b : ℕ) → sweep_state.heap.words (Cell.Buffer b) ≡ h.words (Cell.Buffer b)
+      sweep_buffers b = ap (λ (w : Words). w (Cell.Buffer b)) sweep_words ∙ known.footprints.leaves spans_rows e.ask h.words (Cell.Buffer b) only refl
 
     -- The state behind it.
     module _ (x : Lands) where
@@ -241,7 +217,7 @@ module _ (setup : Setup) (known : Known) where
         words_are = x.words_are ∙ ap (λ (w : Words). effect w e.ask) has.of_list.words_are;
         ever_is = x.ever_is ∙ (has.of_list.ever_is ∙ sym (ever_stays setup known.points e es legal ge));
         bounded = subst (IsBounded z) (sym x.ever_is) has.of_list.bounded;
-        stacks = λ g. subst (λ (v : Ever). (then.heap.words (cell.Scanned g) ≡ END) ↔ (v.ended g ≡ true)) (sym x.ever_is) ((λ y. (has.of_list.stacks g).0 (sym (x.scanned g) ∙ y)), (λ y. x.scanned g ∙ (has.of_list.stacks g).1 y));
+        stacks = λ g. subst (λ (v : Ever). (then.heap.words (Cell.Scanned g) ≡ END) ↔ (v.ended g ≡ true)) (sym x.ever_is) ((λ y. (has.of_list.stacks g).0 (sym (x.scanned g) ∙ y)), (λ y. x.scanned g ∙ (has.of_list.stacks g).1 y));
         others_stacks = λ b g differs its. x.scanned g;
         globals = λ i le. x.global i ∙ has.of_list.globals i le;
         own = λ lt. absurd (omega (arith, lt, ge));
@@ -274,16 +250,16 @@ module _ (setup : Setup) (known : Known) where
       }
 
       -- nobody marks still, where it leaves the buffers
-      pub nobody_marks : ((b : ℕ) → then.heap.words (cell.Buffer b) ≡ h.words (cell.Buffer b)) → (cycle then_cycle : ℕ) → then_cycle ≡ cycle → NobodyMarks setup es cycle h.words → NobodyMarks setup (e ∷ es) then_cycle then.heap.words
+      pub nobody_marks : ((b : ℕ) → then.heap.words (Cell.Buffer b) ≡ h.words (Cell.Buffer b)) → (cycle then_cycle : ℕ) → then_cycle ≡ cycle → NobodyMarks setup es cycle h.words → NobodyMarks setup (e ∷ es) then_cycle then.heap.words
       nobody_marks buffers cycle then_cycle same y = record {
         buffers = λ b. buffers b ∙ y.buffers b;
-        stacks = λ g. subst (λ (n : ℕ). (n < then_cycle) ⊎ (n ≡ END)) (sym (x.scanned g)) (subst (λ (n : ℕ). (h.words (cell.Scanned g) < n) ⊎ (h.words (cell.Scanned g) ≡ END)) (sym same) (y.stacks g));
+        stacks = λ g. subst (λ (n : ℕ). (n < then_cycle) ⊎ (n ≡ END)) (sym (x.scanned g)) (subst (λ (n : ℕ). (h.words (Cell.Scanned g) < n) ⊎ (h.words (Cell.Scanned g) ≡ END)) (sym same) (y.stacks g));
         processors = λ b lt. subst MarksNothing (sym (was_there b lt)) (y.processors b lt);
       }
 
   -- No cycle is under way, and what is swept stays so.
   module _ (e : Entry Op) (es : List (Entry Op)) (legal : Legal (those setup) (e ∷ es)) (ge : setup.layout.procs ≤ e.actor) (cycle page : ℕ) (q : IsOff setup es cycle page) (x : Lands e es legal ge q.has) where
-    abbrev pub off_then : ((b : ℕ) → (then e es legal ge q.has x).heap.words (cell.Buffer b) ≡ q.has.state.heap.words (cell.Buffer b)) → (later : ℕ) → later ≡ cycle → IsOff setup (e ∷ es) later page
+    abbrev pub off_then : ((b : ℕ) → (then e es legal ge q.has x).heap.words (Cell.Buffer b) ≡ q.has.state.heap.words (Cell.Buffer b)) → (later : ℕ) → later ≡ cycle → IsOff setup (e ∷ es) later page
     off_then buffers later same = record {
       has = has_then e es legal ge q.has x;
       over = (sweepers.end_stays known z e.actor q.has.state x.move).1 ∙ q.over;

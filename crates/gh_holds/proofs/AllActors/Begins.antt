@@ -1,37 +1,20 @@
 -- Where a cycle is about to begin the heap is known to marking, and each processor stands still with nothing in hand.
-use Rattle.std.proofs.Common.{◌≡◌, ◌≢◌, inl, ℕ, ◌^◌, ◌<◌, ◌≤◌, Bool, false, cond, refl, sym, ap, subst, ◌∙◌, arith, List, [], length, slice_index_or, Some, None}
-use Rattle.std.proofs.lemmas.Nat.Bits.{bit_at-zero}
-use Rattle.std.specs.Prelude.{◌/◌}
-use Rattle.gh_base.specs.declared.cell.Cell.TheVariants as cell
-use Rattle.gh_base.specs.declared.limits.TheConstants.{MOST_GOROUTINES}
-use Rattle.gh_base.specs.declared.value.Value.TheVariants as value
+use Rattle.std.proofs.Common.{◌≡◌, ◌≢◌, inl, ℕ, ◌^◌, ◌<◌, ◌≤◌, Bool, false, cond, refl, sym, ap, subst, ◌∙◌, arith, List, [], length, slice_index_or, Some, None, ◌%◌, ◌/◌}
+use Rattle.gh_holds.proofs.Vocabulary.{Actor, actors_after, ahead_at, Arena, arena, begin_post, Begun, bit_at, bit_at-zero, Cell, Coordinating, CoordStage, Cycle, drawn_first, END, Entry, Ever, EverValue, Hands, HasCleared, HasCursor, HasGoneOn, HoldsAt, IsAsItShould, IsBeginning, IsBeside, IsLed, IsOf, IsOpened, IsReady, IsToBegin, Legal, ListsKnown, mark_words, MarkFacts, Marking, MayBegin, Means, MOST_GOROUTINES, nothing, Op, Open, part_of, Place, Processor, processor_at, reference_of, REGISTERS, row_bit, run_is, RunPhase, Setup, StandsWithNothing, those, view, Words, words, WordsAreAtRest}
 use Rattle.gh_coord.specs.Handshake as leading
-use Rattle.gh_cycle.specs.Beside.{IsBeside}
-use Rattle.gh_cycle.specs.Opening.{IsOpened, WordsAreAtRest}
-use Rattle.gh_cycle.specs.Since.{HasGoneOn}
-use Rattle.gh_heap.specs.Objects.{Place}
 use Rattle.gh_poll.specs.MarkFacts.{KnowsStacks}
-use Rattle.gh_mutator.specs.ProcessorMarks.{StandsWithNothing}
-use Rattle.gh_phase.specs.declared.view.RunPhase.TheVariants as run
 use Rattle.gh_stack.specs.Facts.{named}
-use Rattle.gh_lists.specs.declared.handshake.Actor.TheVariants as actor
-use Rattle.gh_holds.specs.ActorsHold.{HasCleared, HasCursor, HoldsAt, IsReady}
-use Rattle.gh_marked.proofs.Vocabulary.{actors_after, ahead_at, Arena, arena, AreRegisters, Begun, bit_at, Coordinating, CoordStage, Cycle, END, Entry, Ever, EverValue, Hands, IsAsItShould, IsBeginning, IsLed, IsOf, IsToBegin, KnowsAtAnyTime, Legal, mark_words, MarkFacts, Marking, MayBegin, Means, nothing, Op, Open, part_of, Processor, processor_at, reference_of, register_at, REGISTERS, row_bit, those, Value, view, Words, words, ◌%◌}
-use Rattle.gh_marked.specs.Drawing.{drawn_first}
-use Rattle.gh_marked.specs.Known.{ListsKnown}
-use Rattle.gh_lists.specs.Resting.{run_is}
+use Rattle.gh_marked.proofs.Vocabulary.{AreRegisters, KnowsAtAnyTime, register_at, Value}
 use Rattle.gh_holds.proofs.AllActors.Tied.{is_of_heap}
-use Rattle.gh_marked.specs.Checking.{begin_post}
-use Rattle.gh_lists.specs.Handshake.{Setup}
 
 -- What a value names, by the two ways to say it.
 pub same_name : (place : Place) (made : ℕ → ℕ) (v : EverValue) (w : Value) → Means place made v w → reference_of place v ≡ named w
 same_name place made v w m = grind arith
 
-some_name : (place : Place) (made : ℕ → ℕ) (v : EverValue) (r : ℕ) → Means place made v (value.Ref r) → 1 ≤ r
+some_name : (place : Place) (made : ℕ → ℕ) (v : EverValue) (r : ℕ) → Means place made v (Value.Ref r) → 1 ≤ r
 some_name place made v r m = grind arith
 
-clear_bit : (w : Words) (o : ℕ) → w (cell.Mark (o / 64)) ≡ 0 → row_bit (mark_words w) o ≡ 0
+clear_bit : (w : Words) (o : ℕ) → w (Cell.Mark (o / 64)) ≡ 0 → row_bit (mark_words w) o ≡ 0
 unfolding row_bit
 clear_bit w o is = ap (λ (v : ℕ). bit_at v (o % 64)) is ∙ bit_at-zero (o % 64)
 
@@ -43,8 +26,8 @@ module _ (setup : Setup) (lists : ListsKnown setup)
   abbrev z : Arena
   z = arena setup
 
-  pub is_ready : (p : CoordStage) → IsBeginning p → HoldsAt setup es c p → IsReady setup es c × (words setup es cell.Gcur ≡ 0) × ((words setup es cell.Tally ≡ 0) × (words setup es cell.Live ≡ 0))
-  is_ready (Open o) x h = (h.0, subst (HasCursor (words setup es cell.Gcur)) x h.1, subst (HasCleared (words setup es cell.Tally) (words setup es cell.Live)) x h.2)
+  pub is_ready : (p : CoordStage) → IsBeginning p → HoldsAt setup es c p → IsReady setup es c × (words setup es Cell.Gcur ≡ 0) × ((words setup es Cell.Tally ≡ 0) × (words setup es Cell.Live ≡ 0))
+  is_ready (Open o) x h = (h.0, subst (HasCursor (words setup es Cell.Gcur)) x h.1, subst (HasCleared (words setup es Cell.Tally) (words setup es Cell.Live)) x h.2)
   is_ready _ x h = absurd x
 
   few : c.begun < 2 ^ 48
@@ -59,7 +42,7 @@ module _ (setup : Setup) (lists : ListsKnown setup)
   abbrev cycle : Cycle
   cycle = record { arena = z; number = c.begun; few = few }
 
-  module _ (r : IsReady setup es c) (cursor : words setup es cell.Gcur ≡ 0) (cleared : (words setup es cell.Tally ≡ 0) × (words setup es cell.Live ≡ 0)) where
+  module _ (r : IsReady setup es c) (cursor : words setup es Cell.Gcur ≡ 0) (cleared : (words setup es Cell.Tally ≡ 0) × (words setup es Cell.Live ≡ 0)) where
     rest : WordsAreAtRest z c.begun r.has.state.heap
     rest = grind (arith, clear_bit)
 
@@ -75,7 +58,7 @@ module _ (setup : Setup) (lists : ListsKnown setup)
     beside : IsBeside z r.has.state.heap s
     beside = lists.known.beside_begins cycle r.has.state.heap s r.has.good.heap r.has.of_list.bounded rest opened.of_heap opened.registers (λ o a is. absurd (let none : None ≡ Some o = ((seats a).has.is_reserved o).1 is in cc))
 
-    module _ (a : ℕ) (m : Processor) (lt : a < setup.layout.procs) (is : actors_after z setup.pacing setup.may es a ≡ actor.Runs m) where
+    module _ (a : ℕ) (m : Processor) (lt : a < setup.layout.procs) (is : actors_after z setup.pacing setup.may es a ≡ Actor.Runs m) where
       same : processor_at setup es a ≡ m
       same = run_is setup es a m lt is
 
@@ -88,13 +71,13 @@ module _ (setup : Setup) (lists : ListsKnown setup)
       stands : KnowsAtAnyTime z a (view r.has.state.heap) it.poll
       stands = lists.known.runs.stands z a (view r.has.state.heap) it should.pending should.fine
 
-      goes_on : (g : ℕ) → s.words (cell.Scanned g) ≢ END → r.has.state.heap.ever.ended g ≡ false
+      goes_on : (g : ℕ) → s.words (Cell.Scanned g) ≢ END → r.has.state.heap.ever.ended g ≡ false
       goes_on g other = grind arith
 
       few_goroutines : (g : ℕ) → IsOf z a g → g < MOST_GOROUTINES
       few_goroutines g its = omega (arith, its.0, lists.limits.goroutines_fit.1)
 
-      registers : (g : ℕ) → IsOf z a g → s.words (cell.Scanned g) ≢ END → AreRegisters (s.registers g) (slice_index_or it.poll.local.stacks g [])
+      registers : (g : ℕ) → IsOf z a g → s.words (Cell.Scanned g) ≢ END → AreRegisters (s.registers g) (slice_index_or it.poll.local.stacks g [])
       registers g its other = record {
         whole = whole;
         each = λ d below. opened.registers g d ∙ (ap (λ (x : Bool). cond x 0 (reference_of r.has.state.heap.place (r.has.state.heap.ever.register g d))) (goes_on g other) ∙ same_name r.has.state.heap.place r.has.state.heap.ever.made (r.has.state.heap.ever.register g d) (register_at it.poll g d) (means d below));
@@ -112,7 +95,7 @@ module _ (setup : Setup) (lists : ListsKnown setup)
       stands_still : StandsWithNothing cycle a s it
       stands_still = record {
         stops = (leading.lead_of c).stops;
-        parked = (lists.keeps es legal).processors_wait c run.Off a it led (begin_post c.stage b) (omega (arith, lt)) (is ∙ sym (ap actor.Runs same));
+        parked = (lists.keeps es legal).processors_wait c RunPhase.Off a it led (begin_post c.stage b) (omega (arith, lt)) (is ∙ sym (ap Actor.Runs same));
         seat_is = stands.sits.seat;
         no_buffer = (r.nobody.processors a lt).holds.none;
         stacks = stacks;
@@ -141,7 +124,7 @@ module _ (setup : Setup) (lists : ListsKnown setup)
         stood = λ n x p. p;
         drawn = drawn_first setup lists.known.drawn cycle es s to_begin (opened.of_heap.words ∙ r.has.of_list.words_are) (is_of_heap setup lists.known es r.has cycle s refl (lists.known.marking cycle s opened.opens).good beside) opened.opens;
         marks_fit = λ i. let none = r.marks i in omega (arith, none);
-        counts = (ap (λ (w : Words). w cell.Tally) r.has.of_list.words_are ∙ cleared.0, ap (λ (w : Words). w cell.Live) r.has.of_list.words_are ∙ cleared.1);
+        counts = (ap (λ (w : Words). w Cell.Tally) r.has.of_list.words_are ∙ cleared.0, ap (λ (w : Words). w Cell.Live) r.has.of_list.words_are ∙ cleared.1);
       };
       processors = knows;
     }

@@ -1,33 +1,20 @@
 -- What holds behind a step of a processor while a cycle is marked: what is known of the heap and of the cycle, with the processor as it is then.
-use Rattle.std.proofs.Common.{◌≡◌, ◌⊎◌, inl, inr, ℕ, ◌^◌, ◌<◌, ◌==◌, Bool, true, false, refl, sym, ap, subst, ◌∙◌, arith, List, ◌∷◌, Option, None}
+use Rattle.std.proofs.Common.{◌≡◌, ◌⊎◌, inl, inr, ℕ, ◌^◌, ◌<◌, ◌==◌, Bool, true, false, refl, sym, ap, subst, ◌∙◌, arith, List, ◌∷◌, Option, None, eqb-true, is_some}
+use Rattle.gh_holds.proofs.Vocabulary.{acks_of, Answer, Arena, arena, AreWords, asks, began, began_words, Cell, cell_of, Coordinating, Cycle, drawn_then, Entry, Ever, ever, Given, HasGoneOn, HasState, Heap, HeapSteps, IsBeside, IsInCycle, IsKnown, IsLed, IsToBegin, Kind, Knows, Legal, ListsKnown, mark_words, MarkFacts, Marking, MarkingGood, MarksNothing, may_of, moved, Op, other, Processor, processor_at, processor_kind, run_is, setup_for, started, Steps, StepsByMoves, sweep_in, Sweeping, takes, TellsStacks, those, Wanted, Words, words}
 use Rattle.gh_coord.specs.Handshake as leading
-use Rattle.gh_cycle.specs.Since.{HasGoneOn}
-use Rattle.gh_marks.specs.Moves.{Steps}
 use Rattle.gh_mutator_heap.specs.Beside.{StepsOn}
-use Rattle.gh_marked.specs.State.{began, began_words, HasState}
-use Rattle.std.specs.Prelude.{is_some}
-use Rattle.gh_base.specs.declared.cell.Cell.TheVariants as cell
-use Rattle.gh_mutator.specs.Sweeping.{IsSweeping, sweep_in}
+use Rattle.gh_mutator.specs.Sweeping.{IsSweeping}
 use Rattle.gh_state.specs.Moves as state
-use Rattle.gh_sweep.specs.Listing.{Sweeping}
-use Rattle.gh_marked.specs.HoldVocabulary.{IsBeside}
-use Rattle.gh_marked.proofs.Vocabulary.{acks_of, Answer, Arena, arena, AreWords, asks, Cell, cell_of, Coordinating, Cycle, DoesPoints, Entry, eqb-true, Ever, ever, Heap, IsInCycle, IsKnown, IsLed, IsToBegin, IsWritten, Kind, Knows, Legal, mark_words, MarkFacts, Marking, MarkingGood, MarksNothing, may_of, moved, Op, StepsByMoves, Processor, processor_at, processor_kind, started, Steps as HeapSteps, takes, those, Words, words}
+use Rattle.gh_marked.proofs.Vocabulary.{DoesPoints, IsWritten}
 use Rattle.gh_marked.proofs.OneStep.Beside as beside
-use Rattle.gh_marked.specs.Drawing.{drawn_then}
 use Rattle.gh_holds.proofs.AllActors.Gone.{gone_rests}
-use Rattle.gh_marked.specs.Known.{ListsKnown}
 use Rattle.gh_holds.proofs.AllActors.Marks.{words_stay}
 use Rattle.gh_marked.proofs.OneStep.Landing as landing
 use Rattle.gh_marked.proofs.OneStep.OwnStep as step
-use Rattle.gh_lists.specs.Resting.{run_is}
-use Rattle.gh_marked.specs.StackWords.{TellsStacks}
 use Rattle.gh_marked.proofs.OneStep.Stepping as stepping
 use Rattle.gh_holds.proofs.AllActors.Stood.{move_stays, Stays}
 use Rattle.gh_marked.proofs.OneStep.Sweepers as sweepers
 use Rattle.gh_holds.proofs.AllActors.Tied.{is_of_heap}
-use Rattle.gh_marked.proofs.OneStep.Wanted.{Wanted}
-use Rattle.gh_lists.specs.Seats.{other}
-use Rattle.gh_lists.specs.Lists.{Given, setup_for}
 
 module _ (given : Given) (wanted : Wanted) (lists : ListsKnown (setup_for given)) where
   abbrev may : ℕ → List (Entry Op) → Op → Bool
@@ -89,12 +76,6 @@ module _ (given : Given) (wanted : Wanted) (lists : ListsKnown (setup_for given)
     beside_then : IsBeside z t goes.then
     beside_then = subst (λ (x : Heap). IsBeside z x goes.then) (sym t_is) goes.beside
 
-    abbrev found : ℕ
-    found = h.words (cell_of (asks given.layout now))
-
-    abbrev then : Processor
-    then = takes given.layout given.shapes now found
-
     -- The cycle, and what has become of the heap since it began.
 
     other_seat : (e.actor == acks_of given.layout) ≡ false
@@ -155,7 +136,7 @@ module _ (given : Given) (wanted : Wanted) (lists : ListsKnown (setup_for given)
       stood = since.2;
       drawn = drawn_then (setup_for given) lists.known.drawn (cycle number few) e es s goes.then marked.fine goes.went (beside_then.words ∙ has_then.of_list.words_are) (is_of_heap (setup_for given) lists.known (e ∷ es) has_then (cycle number few) goes.then refl (wanted.steps (cycle number few) a s goes.then marked.fine goes.went).good beside_then) marked.kn.drawn;
       marks_fit = subst (λ (w : Words). AreWords (mark_words w)) beside_then.words (words_stay lists.known.mark_words (cycle number few) a s goes.then goes.went (subst (λ (w : Words). AreWords (mark_words w)) (sym marked.kn.beside.words) marked.kn.marks_fit));
-      counts = (uncounted_then cell.Tally no_sweep marked.kn.counts.0, uncounted_then cell.Live no_sweep marked.kn.counts.1);
+      counts = (uncounted_then Cell.Tally no_sweep marked.kn.counts.0, uncounted_then Cell.Live no_sweep marked.kn.counts.1);
     }
 
     asked : e.ask ≡ asks given.layout now

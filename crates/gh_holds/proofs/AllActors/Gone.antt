@@ -1,13 +1,7 @@
 -- A processor that is gone makes no step.
 use Rattle.std.proofs.Common.{◌≡◌, ◌<◌, true, false, inl, inr, refl, sym, ap, subst, ◌∙◌, arith, List, ◌∷◌, Option, Some, None}
-use Rattle.gh_base.specs.declared.cell.Cell.TheVariants as cell
-use Rattle.gh_lists.specs.declared.handshake.Actor.TheVariants as actor
+use Rattle.gh_holds.proofs.Vocabulary.{Actor, actors, Ask, asks, Awake, Begins, Cell, Entry, GONE, Gone, is_busy, is_busy_at, KeepsIt, Kind, Legal, ListsKnown, Op, Party, party_of, place_of, Processor, processor_at, processor_kind, run_started, runs_are, Setup, SoundPlace, Stage, stage_of, StageGoes, started, state_of, takes, those, words}
 use Rattle.gh_lists.specs.Handshake as handshake
-use Rattle.gh_marked.proofs.Vocabulary.{Actor, actors, Ask, asks, Awake, Begins, Entry, GONE, Gone, is_busy, is_busy_at, KeepsIt, Kind, Legal, Op, Party, party_of, place_of, Processor, processor_at, processor_kind, SoundPlace, Stage, stage_of, StageGoes, started, state_of, takes, those, words}
-use Rattle.gh_marked.specs.Known.{ListsKnown}
-use Rattle.gh_lists.specs.Resting.{runs_are}
-use Rattle.gh_lists.specs.Seats.{run_started}
-use Rattle.gh_lists.specs.Handshake.{Setup}
 
 module _ (setup : Setup) (lists : ListsKnown setup)
     (e : Entry Op) (es : List (Entry Op)) (legal : Legal (those setup) (e ∷ es)) (lt : e.actor < setup.layout.procs) where
@@ -23,7 +17,7 @@ module _ (setup : Setup) (lists : ListsKnown setup)
   abbrev now : Processor
   now = started (processor_kind setup.shapes setup.layout) e.begun m
 
-  at_is : state_of all e.actor es ≡ actor.Runs m
+  at_is : state_of all e.actor es ≡ Actor.Runs m
   at_is = runs_are setup es e.actor lt
 
   sound : SoundPlace m
@@ -48,10 +42,10 @@ module _ (setup : Setup) (lists : ListsKnown setup)
       (ap (λ (x : Option Op). stage_of (started (processor_kind setup.shapes setup.layout) x m)) is ∙ stage, subst (λ (x : Option Op). SoundPlace (started (processor_kind setup.shapes setup.layout) x m)) (sym is) (lists.known.places.sound_begins setup.shapes setup.layout m o sound idle))
 
   -- who has said so is gone
-  stage_gone : words setup es (cell.Ack e.actor) ≡ GONE → stage_of m ≡ Gone
+  stage_gone : words setup es (Cell.Ack e.actor) ≡ GONE → stage_of m ≡ Gone
   stage_gone said = (keeps.shakes.gone e.actor (party_of m) (stage_of m) (omega (arith, lt)) (ap place_of at_is)).0 said
 
-  pub gone_rests : words setup es (cell.Ack e.actor) ≡ GONE → ⊥
+  pub gone_rests : words setup es (Cell.Ack e.actor) ≡ GONE → ⊥
   gone_rests said =
       let then = gone_begins e.begun refl (stage_gone said) in
       gone_goes (party_of now) (stage_of now) (takes setup.layout setup.shapes now e.found) then.0 (asks setup.layout now) (lists.known.places.takes_so setup.layout setup.shapes now e.found then.1 runs)

@@ -1,21 +1,11 @@
 -- One entry more of the coordinator outside of marking: it keeps whether the cycle is the last, and what is said of the cycle that ended last goes on; and where its step is on no word of spans and counts, so does all that is swept.
 use Rattle.std.proofs.Common.{◌≡◌, ℕ, ◌+◌, ◌≤◌, true, refl, sym, ap, subst, ◌∙◌, arith, List, ◌∷◌, None}
-use Rattle.gh_base.specs.declared.cell.Cell.TheVariants as cell
-use Rattle.gh_coord.specs.Events.{by_event}
+use Rattle.gh_holds.proofs.Vocabulary.{actors_after, Arena, arena, by_event, Cell, Coordinating, CoordStage, Done, Entry, ever_stays, HasEnded, HasState, IsLed, IsOff, keeps_last, Layout, ListsKnown, NotAcks, Op, Setup, State, Sweep, sweep_of}
 use Rattle.gh_coord.specs.Listing as coord
-use Rattle.gh_holds.specs.ActorsHold.{HasEnded, IsOff}
-use Rattle.gh_marked.specs.State.{HasState}
-use Rattle.gh_marked.specs.HoldVocabulary.{State}
-use Rattle.gh_marked.specs.Sweepers.{sweep_of}
-use Rattle.gh_marked.proofs.Vocabulary.{actors_after, Arena, arena, Coordinating, CoordStage, Done, Entry, IsLed, Layout, Op, Sweep}
 use Rattle.gh_holds.proofs.AllActors.Aside as aside
 use Rattle.gh_holds.proofs.AllActors.Aside.{beside_of, keeps_buffers, Lands, TellsNothing}
-use Rattle.gh_lists.specs.Going.{keeps_last, NotAcks}
-use Rattle.gh_marked.specs.Known.{ListsKnown}
 use Rattle.gh_holds.proofs.AllActors.LeadingSeat.{ByLead, from, led_then, sweeps_before, sweeps_then}
-use Rattle.gh_lists.specs.Resting.{ever_stays}
 use Rattle.gh_holds.proofs.AllActors.SinceEnd.{as_it_ended, has_ended_on, KeepsEnd, LastStays, MovesBy, quiet_keeps_end}
-use Rattle.gh_lists.specs.Handshake.{Setup}
 
 -- it runs no sweep, and begins none
 abbrev pub NotSweeps : CoordStage → Type 0
@@ -75,7 +65,7 @@ module _ (setup : Setup) (lists : ListsKnown setup) where
       }
 
     -- behind such a step
-    abbrev pub goes_on : NotAcks by.lead.stage → (page : ℕ) (b : IsBehind es by.lead page) (x : Step b.off.has) → ((i : ℕ) → (then b.off.has x).heap.words (cell.Buffer i) ≡ b.off.has.state.heap.words (cell.Buffer i)) → KeepsEnd b.off.has.state (then b.off.has x) → (d : Coordinating) → d.begun ≡ by.lead.begun → IsBehind (e ∷ es) d page
+    abbrev pub goes_on : NotAcks by.lead.stage → (page : ℕ) (b : IsBehind es by.lead page) (x : Step b.off.has) → ((i : ℕ) → (then b.off.has x).heap.words (Cell.Buffer i) ≡ b.off.has.state.heap.words (Cell.Buffer i)) → KeepsEnd b.off.has.state (then b.off.has x) → (d : Coordinating) → d.begun ≡ by.lead.begun → IsBehind (e ∷ es) d page
     goes_on other page b x buffers keeps d same = record {
       off = aside.off_then setup lists.known e es by.legal ge (by.lead.begun + 1) page b.off x buffers (d.begun + 1) (ap (λ (n : ℕ). n + 1) same);
       behind = subst (λ (k : ℕ). HasEnded setup (e ∷ es) k (then b.off.has x)) (sym same) (behind_on other b.off.has x keeps by.lead.begun b.behind);

@@ -1,30 +1,21 @@
 -- The coordinator between two cycles, and while it opens one: what holds behind each of its steps, up to the store of the phase of marking.
 use Rattle.std.proofs.Common.{◌≡◌, ℕ, ◌+◌, ◌<◌, ◌≤◌, ◌==◌, Bool, true, false, cond, ltb, refl, sym, ap, subst, ◌∙◌, arith, List, ◌∷◌, Option, Some, None}
-use Rattle.gh_base.specs.declared.cell.Cell.TheVariants as cell
-use Rattle.gh_coord.specs.declared.open.OpenStage.TheVariants as opening
+use Rattle.gh_holds.proofs.Vocabulary.{actors_after, ahead_at, Arena, arena, AreSwept, Ask, Cell, Coordinating, CoordStage, effect, Entry, GONE, HasCleared, HasCursor, HoldsAt, IsInSweep, IsLed, IsOpening, IsQuiet, IsReady, Legal, ListsKnown, LoadAck, LoadWant, NobodyMarks, Op, Open, opened, Opens, OpenStage, part_of, RunPhase, seats_of, SeatSweepsNothing, Setup, State, Stop, Stopped, sweep_of, those, Words, words}
 use Rattle.gh_coord.specs.Listing as coord
 use Rattle.gh_coord.specs.Opening as opens_by
 use Rattle.gh_coord.specs.Stopping as stop
 use Rattle.gh_coord.specs.Handshake as leading
-use Rattle.gh_phase.specs.declared.view.RunPhase.TheVariants as run
-use Rattle.gh_state.specs.Cycles.{AreSwept, opened, Opens}
-use Rattle.gh_holds.specs.ActorsHold.{HasCleared, HasCursor, HoldsAt, IsOpening, IsQuiet, IsReady, NobodyMarks}
-use Rattle.gh_marked.specs.HoldVocabulary.{SeatSweepsNothing, State}
-use Rattle.gh_marked.specs.Sweepers.{IsInSweep, sweep_of}
-use Rattle.gh_marked.proofs.Vocabulary.{actors_after, ahead_at, Arena, arena, Ask, Coordinating, CoordStage, effect, Entry, GONE, IsLed, Legal, LoadAck, LoadWant, Op, Open, OpenStage, part_of, seats_of, Stop, Stopped, those, Words, words}
 use Rattle.gh_holds.proofs.AllActors.Aside as aside_of
 use Rattle.gh_holds.proofs.AllActors.Aside.{aside_rows, beside_rows, IsAside, Lands, telling_rows, TellsNothing}
-use Rattle.gh_marked.specs.Known.{ListsKnown}
 use Rattle.gh_holds.proofs.AllActors.LeadingAside.{NotSweeps, quiet_on}
 use Rattle.gh_holds.proofs.AllActors.LeadingSeat.{asked_at, ByLead, from, led_then, goes_at as goes_by, stopped_sweeps_none, sweeps_before}
-use Rattle.gh_lists.specs.Handshake.{Setup}
 
 -- each request of an opening leaves the cursor, once it is cleared
-opens_cursor : (o : opens_by.CycleOpening) (p : OpenStage) (w : Words) → HasCursor (w cell.Gcur) p → HasCursor (effect w (opens_by.asks_at o p) cell.Gcur) (opens_by.behind p)
+opens_cursor : (o : opens_by.CycleOpening) (p : OpenStage) (w : Words) → HasCursor (w Cell.Gcur) p → HasCursor (effect w (opens_by.asks_at o p) Cell.Gcur) (opens_by.behind p)
 opens_cursor o p w h = grind arith
 
 -- and the counts of the last sweep
-opens_counts : (o : opens_by.CycleOpening) (p : OpenStage) (w : Words) → HasCleared (w cell.Tally) (w cell.Live) p → HasCleared (effect w (opens_by.asks_at o p) cell.Tally) (effect w (opens_by.asks_at o p) cell.Live) (opens_by.behind p)
+opens_counts : (o : opens_by.CycleOpening) (p : OpenStage) (w : Words) → HasCleared (w Cell.Tally) (w Cell.Live) p → HasCleared (effect w (opens_by.asks_at o p) Cell.Tally) (effect w (opens_by.asks_at o p) Cell.Live) (opens_by.behind p)
 opens_counts o p w h = grind arith
 
 -- who rests does so still where a cycle is opened
@@ -36,7 +27,7 @@ module _ (setup : Setup) (lists : ListsKnown setup) where
   z = arena setup
 
   -- In a world that is stopped for it, a cycle is ready to be opened, with the next number.
-  module _ (es : List (Entry Op)) (legal : Legal (those setup) es) (c d : Coordinating) (led : IsLed setup es d) (post : leading.post_at d.stage ≡ Stopped run.Off) (later : d.begun ≡ c.begun + 1) (q : IsQuiet setup es c) where
+  module _ (es : List (Entry Op)) (legal : Legal (those setup) es) (c d : Coordinating) (led : IsLed setup es d) (post : leading.post_at d.stage ≡ Stopped RunPhase.Off) (later : d.begun ≡ c.begun + 1) (q : IsQuiet setup es c) where
     all_swept : AreSwept q.has.state
     all_swept = lists.known.walkers.all z q.has.state q.has.good q.passed
 
@@ -45,13 +36,13 @@ module _ (setup : Setup) (lists : ListsKnown setup) where
 
     sweeps_none : (b : ℕ) → b < seats_of setup.layout → IsInSweep b (opened q.has.state) (sweep_of (actors_after z setup.pacing setup.may es b))
     sweeps_none b lt =
-        let none : sweep_of (actors_after z setup.pacing setup.may es b) ≡ None = stopped_sweeps_none setup lists es legal d led run.Off post b lt in
+        let none : sweep_of (actors_after z setup.pacing setup.may es b) ≡ None = stopped_sweeps_none setup lists es legal d led RunPhase.Off post b lt in
         subst (IsInSweep b (opened q.has.state)) (sym none) (rests_opened b q.has.state (subst (IsInSweep b q.has.state) none (q.has.sweeps b lt)))
 
     pub ready : IsReady setup es d
     ready = record {
       has = record { state = opened q.has.state; of_list = q.has.of_list; good = opens_so.good; placing = q.has.placing; others_place = q.has.others_place; sweeps = sweeps_none };
-      under_way = (record { tally = q.has.state.heap.words cell.Tally; live = q.has.state.heap.words cell.Live }, refl);
+      under_way = (record { tally = q.has.state.heap.words Cell.Tally; live = q.has.state.heap.words Cell.Live }, refl);
       marks = opens_so.marks;
       nobody = subst (λ (n : ℕ). NobodyMarks setup es n q.has.state.heap.words) (sym later) q.nobody;
     }
@@ -95,16 +86,16 @@ module _ (setup : Setup) (lists : ListsKnown setup) where
 
     -- the number of the cycle that is to be opened
     module _ (st : stop.Stopping) (is : by.lead.stage ≡ Stop st) where
-      same_swept : words setup (e ∷ es) cell.Swept ≡ words setup es cell.Swept
+      same_swept : words setup (e ∷ es) Cell.Swept ≡ words setup es Cell.Swept
       same_swept = grind arith
 
-      was_number : by.lead.begun ≡ words setup es cell.Swept + 0
-      was_number = (subst (λ (p : CoordStage). by.lead.begun ≡ words setup es cell.Swept + (ahead_at (part_of p)).numbered) is (lists.counts es by.lead by.legal.0 by.led).number)
+      was_number : by.lead.begun ≡ words setup es Cell.Swept + 0
+      was_number = (subst (λ (p : CoordStage). by.lead.begun ≡ words setup es Cell.Swept + (ahead_at (part_of p)).numbered) is (lists.counts es by.lead by.legal.0 by.led).number)
 
       module _ (d : Coordinating) (work : ℕ) (goal : Option ℕ) (led_d : IsLed setup (e ∷ es) d) (at : d.stage ≡ Open (opens_by.opening u.stops (coord.next_cycle u.begun) work goal)) where
         pub next_number : d.begun ≡ by.lead.begun + 1
         next_number =
-            let now : d.begun ≡ words setup (e ∷ es) cell.Swept + 1 = subst (λ (p : CoordStage). d.begun ≡ words setup (e ∷ es) cell.Swept + (ahead_at (part_of p)).numbered) at (lists.counts (e ∷ es) d by.legal led_d).number in
+            let now : d.begun ≡ words setup (e ∷ es) Cell.Swept + 1 = subst (λ (p : CoordStage). d.begun ≡ words setup (e ∷ es) Cell.Swept + (ahead_at (part_of p)).numbered) at (lists.counts (e ∷ es) d by.legal led_d).number in
             omega (arith, now, was_number, same_swept)
 
       pub stops : IsQuiet setup es by.lead → To (coord.goes_at setup.layout u (Stop st) e.found)
@@ -140,23 +131,23 @@ module _ (setup : Setup) (lists : ListsKnown setup) where
       ready_then d same = record {
         has = aside_of.has_then setup lists.known e es by.legal ge r.0.has land;
         under_way = r.0.under_way;
-        marks = λ i. lists.known.footprints.leaves aside_rows e.ask r.0.has.state.heap.words (cell.Mark i) aside refl ∙ r.0.marks i;
-        nobody = aside_of.nobody_marks setup lists.known e es by.legal ge r.0.has land (λ b. lists.known.footprints.leaves aside_rows e.ask r.0.has.state.heap.words (cell.Buffer b) aside refl) by.lead.begun d.begun same r.0.nobody;
+        marks = λ i. lists.known.footprints.leaves aside_rows e.ask r.0.has.state.heap.words (Cell.Mark i) aside refl ∙ r.0.marks i;
+        nobody = aside_of.nobody_marks setup lists.known e es by.legal ge r.0.has land (λ b. lists.known.footprints.leaves aside_rows e.ask r.0.has.state.heap.words (Cell.Buffer b) aside refl) by.lead.begun d.begun same r.0.nobody;
       }
 
       so : (d : Coordinating) → d.begun ≡ by.lead.begun → IsOpening setup (e ∷ es) d (opens_by.behind o.stage)
       so d same = (
         ready_then d same,
-        subst (λ (q : Ask). HasCursor (effect (words setup es) q cell.Gcur) (opens_by.behind o.stage)) (sym (asks_so (Open o) is)) (opens_cursor o o.stage (words setup es) r.1),
-        subst (λ (q : Ask). HasCleared (effect (words setup es) q cell.Tally) (effect (words setup es) q cell.Live) (opens_by.behind o.stage)) (sym (asks_so (Open o) is)) (opens_counts o o.stage (words setup es) r.2),
+        subst (λ (q : Ask). HasCursor (effect (words setup es) q Cell.Gcur) (opens_by.behind o.stage)) (sym (asks_so (Open o) is)) (opens_cursor o o.stage (words setup es) r.1),
+        subst (λ (q : Ask). HasCleared (effect (words setup es) q Cell.Tally) (effect (words setup es) q Cell.Live) (opens_by.behind o.stage)) (sym (asks_so (Open o) is)) (opens_counts o o.stage (words setup es) r.2),
       )
 
       there : (p : OpenStage) → o.stage ≡ p → (d : Coordinating) → d.begun ≡ by.lead.begun → IsOpening setup (e ∷ es) d (opens_by.behind p)
       there p x d same = subst (λ (y : OpenStage). IsOpening setup (e ∷ es) d (opens_by.behind y)) x (so d same)
 
       by_stage : (p : OpenStage) → o.stage ≡ p → To (coord.after_open (coord.at_stage u (Open (opens_by.goes_at o p e.found))) (opens_by.given_at (opens_by.behind p)))
-      by_stage opening.StorePhase x = tt
-      by_stage opening.Ended x = tt
+      by_stage OpenStage.StorePhase x = tt
+      by_stage OpenStage.Ended x = tt
       by_stage _ x = there _ x _ refl
 
       by_any : (p : OpenStage) → o.stage ≡ p → To (coord.goes_at setup.layout u (Open o) e.found)

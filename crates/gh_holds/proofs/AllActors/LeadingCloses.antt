@@ -1,30 +1,16 @@
 -- The store of the next sweep generation ends a cycle: what holds then is what the sweep begins with.
-use Rattle.std.proofs.Common.{◌≡◌, ◌⊎◌, inl, inr, ℕ, ◌+◌, ◌*◌, ◌^◌, ◌<◌, ◌≤◌, Bool, true, false, ltb, refl, sym, ap, subst, ◌∙◌, arith, List, ◌∷◌}
-use Rattle.gh_base.specs.declared.cell.Cell.TheVariants as cell
-use Rattle.gh_coord.specs.declared.close.CloseStage.TheVariants as closing
+use Rattle.std.proofs.Common.{◌≡◌, ◌⊎◌, inl, inr, ℕ, ◌+◌, ◌*◌, ◌^◌, ◌<◌, ◌≤◌, Bool, true, false, ltb, refl, sym, ap, subst, ◌∙◌, arith, List, ◌∷◌, eqb-true}
+use Rattle.gh_holds.proofs.Vocabulary.{acks_of, actors_after, ActorSound, ahead_at, alloc_words, Arena, arena, Cell, Checked, Close, close_part, CloseStage, Coordinating, CoordStage, cycle_ended, effect, END, EndedSo, Entry, HasEnded, HasState, Heap, IsAsItEnded, IsBeginning, IsEnding, IsInCycle, IsInSweep, IsLed, IsOver, IsSweeping, IsToBegin, Layout, ListsKnown, mark_words, MarksNothing, MarksToTheEnd, Name, nat_tests, next_words, NobodyMarks, NotAcks, Op, Part, part_of, Processor, processor_at, put, Reach, row_bit, RunPhase, seats_of, SeatSweepsNothing, Setup, State, state_stays, StateGood, Stopped, Store, sweep_of, uncounted, Walks, whole, Words, words}
 use Rattle.gh_coord.specs.Closing as close
 use Rattle.gh_coord.specs.Handshake as leading
 use Rattle.gh_coord.specs.Listing as coord
 use Rattle.gh_coord.specs.SweepingAll as over_all
-use Rattle.gh_model.specs.Ever.{Reach}
-use Rattle.gh_phase.specs.declared.view.RunPhase.TheVariants as run
-use Rattle.gh_state.specs.Cycles.{cycle_ended, IsOver, next_words}
-use Rattle.gh_lists.specs.Handshake.{Sound as ActorSound, Setup}
-use Rattle.gh_holds.specs.ActorsHold.{EndedSo, HasEnded, IsSweeping, NobodyMarks, Walks}
-use Rattle.gh_marked.specs.State.{HasState}
-use Rattle.gh_marked.specs.Sweepers.{IsInSweep, sweep_of}
-use Rattle.gh_marked.specs.HoldVocabulary.{IsAsItEnded, Name, row_bit, SeatSweepsNothing, State, StateGood}
-use Rattle.gh_marked.proofs.Vocabulary.{acks_of, actors_after, ahead_at, alloc_words, Arena, arena, Checked, Close, close_part, CloseStage, Coordinating, CoordStage, effect, END, Entry, eqb-true, Heap, IsBeginning, IsEnding, IsInCycle, IsLed, IsToBegin, Layout, mark_words, MarksNothing, MarksToTheEnd, nat_tests, Op, Part, part_of, Processor, processor_at, put, seats_of, Stopped, Store, uncounted, Words, words}
 use Rattle.gh_holds.proofs.AllActors.Aside.{IsOfSpans, TellsNothing}
-use Rattle.gh_lists.specs.Going.{NotAcks}
-use Rattle.gh_marked.specs.Known.{ListsKnown}
 use Rattle.gh_holds.proofs.AllActors.LeadingEnds.{buffers, facts, none_placing, post, reached_are_marked, still_at}
 use Rattle.gh_holds.proofs.AllActors.LeadingAside.{last_stays, NotSweeps, told_on}
 use Rattle.gh_holds.proofs.AllActors.LeadingSeat.{asked_at, ByLead, from, goes_at as goes_by, is_still, IsStill, led_then, owes_nothing, stopped_sweeps_none}
 use Rattle.gh_holds.proofs.AllActors.LeadingSwept.{apart, behind_of, heap_on, nobody_on, sweeping_of}
-use Rattle.gh_lists.specs.Resting.{state_stays}
 use Rattle.gh_holds.proofs.AllActors.SinceEnd.{in_cycle_on, LastStays}
-use Rattle.gh_lists.specs.Starts.{whole}
 
 -- a coordinator that ends a cycle does not begin one
 no_beginning : (p : CoordStage) (x : close.Closing) → p ≡ Close x → IsBeginning p → ⊥
@@ -37,7 +23,7 @@ module _ (setup : Setup) (lists : ListsKnown setup) where
   abbrev Ends : List (Entry Op) → Coordinating → Type 0
   Ends es c = MarksToTheEnd z setup.pacing setup.may es c
 
-  module _ (e : Entry Op) (es : List (Entry Op)) (by : ByLead setup e es) (x : close.Closing) (is : by.lead.stage ≡ Close x) (at : x.stage ≡ closing.StoreGen) (on : leading.Marks by.lead.stage) (mark : Ends es by.lead) where
+  module _ (e : Entry Op) (es : List (Entry Op)) (by : ByLead setup e es) (x : close.Closing) (is : by.lead.stage ≡ Close x) (at : x.stage ≡ CloseStage.StoreGen) (on : leading.Marks by.lead.stage) (mark : Ends es by.lead) where
     abbrev s : State
     s = mark.marking.known.has.state
 
@@ -53,22 +39,22 @@ module _ (setup : Setup) (lists : ListsKnown setup) where
     checked = ap part_of is ∙ ap close_part at
 
     abbrev swept : ℕ
-    swept = words setup es cell.Swept
+    swept = words setup es Cell.Swept
 
-    gen_is : h.words cell.Gen ≡ 2 + 2 * (swept + 0)
-    gen_is = ap (λ (w : Words). w cell.Gen) words_here ∙ ((lists.counts es by.lead by.legal.0 by.led).gen ∙ ap (λ (p : Part). 2 + 2 * (swept + (ahead_at p).ended)) checked)
+    gen_is : h.words Cell.Gen ≡ 2 + 2 * (swept + 0)
+    gen_is = ap (λ (w : Words). w Cell.Gen) words_here ∙ ((lists.counts es by.lead by.legal.0 by.led).gen ∙ ap (λ (p : Part). 2 + 2 * (swept + (ahead_at p).ended)) checked)
 
     generation_is : by.lead.generation ≡ 2 + 2 * (swept + 1)
     generation_is = (lists.counts es by.lead by.legal.0 by.led).generation ∙ ap (λ (p : Part). 2 + 2 * (swept + (ahead_at p).generation)) checked
 
-    begun_is : words setup es cell.Begun ≡ by.lead.begun
+    begun_is : words setup es Cell.Begun ≡ by.lead.begun
     begun_is =
         let k = lists.counts es by.lead by.legal.0 by.led in
         let a = k.begun ∙ ap (λ (p : Part). swept + (ahead_at p).begun) checked in
         let b = k.number ∙ ap (λ (p : Part). swept + (ahead_at p).numbered) checked in
         omega (arith, a, b)
 
-    room : h.words cell.Gen + 2 < 2 ^ 34
+    room : h.words Cell.Gen + 2 < 2 ^ 34
     room =
         let few = lists.few es by.legal.0 in
         let opened = (lists.counts es by.lead by.legal.0 by.led).opened ∙ ap (λ (p : Part). swept + (ahead_at p).opened) checked in
@@ -81,30 +67,30 @@ module _ (setup : Setup) (lists : ListsKnown setup) where
     stored : x.generation ≡ by.lead.generation
     stored = ap (λ (v : close.Closing). v.generation) (subst (leading.SoundAt by.lead) is sound.1)
 
-    asked : e.ask ≡ Store cell.Gen x.generation
+    asked : e.ask ≡ Store Cell.Gen x.generation
     asked = asked_at setup lists e es by (Close x) is ∙ ap (close.asks_at x) at
 
-    next : h.words cell.Gen + 2 ≡ x.generation
+    next : h.words Cell.Gen + 2 ≡ x.generation
     next = let a = gen_is in let b = generation_is in let d = stored in omega (arith, a, b, d)
 
     words_so : next_words h.words ≡ effect h.words e.ask
-    words_so = ap (put h.words cell.Gen) next ∙ sym (ap (effect h.words) asked)
+    words_so = ap (put h.words Cell.Gen) next ∙ sym (ap (effect h.words) asked)
 
     only : IsOfSpans e.ask
     only = subst IsOfSpans (sym asked) refl
 
     -- Marking is over: nobody holds anything, and each processor has counted what it placed.
 
-    stopped : leading.post_at by.lead.stage ≡ Stopped run.Mark
+    stopped : leading.post_at by.lead.stage ≡ Stopped RunPhase.Mark
     stopped = post setup lists es by.legal.0 by.lead by.led x is on mark
 
     still : IsStill h
-    still = is_still setup lists es by.legal.0 by.lead by.led run.Mark stopped h mark.marking.known.has.of_list
+    still = is_still setup lists es by.legal.0 by.lead by.led RunPhase.Mark stopped h mark.marking.known.has.of_list
 
     pends : (a : ℕ) → s.pend a ≡ 0
     pends a = go (ltb a setup.layout.procs) refl where
       go : (b : Bool) → ltb a setup.layout.procs ≡ b → s.pend a ≡ 0
-      go true y = let lt : a < setup.layout.procs = grind (arith, nat_tests) in mark.marking.known.has.placing a lt ∙ owes_nothing setup lists es by.legal.0 by.lead by.led run.Mark stopped a lt
+      go true y = let lt : a < setup.layout.procs = grind (arith, nat_tests) in mark.marking.known.has.placing a lt ∙ owes_nothing setup lists es by.legal.0 by.lead by.led RunPhase.Mark stopped a lt
       go false y = mark.marking.known.has.others_place a (grind (arith, nat_tests))
 
     -- what a script reaches is marked
@@ -153,16 +139,16 @@ module _ (setup : Setup) (lists : ListsKnown setup) where
     closes_to p y = ap (λ (q : CloseStage). close.goes_at x q e.found) (sym y)
 
     abbrev behind_it : Coordinating
-    behind_it = coord.at_stage (coord.counted by.lead) (Close (close.at_stage x closing.StorePhase))
+    behind_it = coord.at_stage (coord.counted by.lead) (Close (close.at_stage x CloseStage.StorePhase))
 
     leads_to : coord.goes setup.layout by.lead e.found ≡ behind_it
-    leads_to = goes_by setup lists e es by (Close x) is ∙ ap (λ (y : close.Closing). coord.after_close (coord.at_stage (coord.counted by.lead) (Close y)) (close.given y)) (sym (closes_to closing.StoreGen at))
+    leads_to = goes_by setup lists e es by (Close x) is ∙ ap (λ (y : close.Closing). coord.after_close (coord.at_stage (coord.counted by.lead) (Close y)) (close.given y)) (sym (closes_to CloseStage.StoreGen at))
 
     led_behind : IsLed setup (e ∷ es) behind_it
     led_behind = subst (IsLed setup (e ∷ es)) leads_to (led_then setup lists e es by)
 
     sweeps_none : (b : ℕ) → b < seats_of setup.layout → IsInSweep b then (sweep_of (actors_after z setup.pacing setup.may (e ∷ es) b))
-    sweeps_none b lt = subst (IsInSweep b then) (sym (stopped_sweeps_none setup lists (e ∷ es) by.legal behind_it led_behind run.Mark refl b lt)) (rests b)
+    sweeps_none b lt = subst (IsInSweep b then) (sym (stopped_sweeps_none setup lists (e ∷ es) by.legal behind_it led_behind RunPhase.Mark refl b lt)) (rests b)
 
     -- and the objects of since are those that are marked
     as_it_ended : IsAsItEnded then
@@ -200,12 +186,12 @@ module _ (setup : Setup) (lists : ListsKnown setup) where
     behind = record { cycle = in_cycle_on setup e es by.lead.begun s then last in_cycle; ended = ended }
 
     -- each stack was scanned in this cycle or before, if at all
-    scanned : (g : ℕ) → (h.words (cell.Scanned g) < by.lead.begun + 1) ⊎ (h.words (cell.Scanned g) ≡ END)
+    scanned : (g : ℕ) → (h.words (Cell.Scanned g) < by.lead.begun + 1) ⊎ (h.words (Cell.Scanned g) ≡ END)
     scanned g = go (lists.numbers es by.legal.0 g) where
-      here : h.words (cell.Scanned g) ≡ words setup es (cell.Scanned g)
-      here = ap (λ (w : Words). w (cell.Scanned g)) words_here
+      here : h.words (Cell.Scanned g) ≡ words setup es (Cell.Scanned g)
+      here = ap (λ (w : Words). w (Cell.Scanned g)) words_here
 
-      go : (words setup es (cell.Scanned g) ≡ END) ⊎ (words setup es (cell.Scanned g) ≤ words setup es cell.Begun) → (h.words (cell.Scanned g) < by.lead.begun + 1) ⊎ (h.words (cell.Scanned g) ≡ END)
+      go : (words setup es (Cell.Scanned g) ≡ END) ⊎ (words setup es (Cell.Scanned g) ≤ words setup es Cell.Begun) → (h.words (Cell.Scanned g) < by.lead.begun + 1) ⊎ (h.words (Cell.Scanned g) ≡ END)
       go (inl i) = inr (here ∙ i)
       go (inr i) = let b = begun_is in inl (omega (arith, here, i, b))
 
@@ -220,7 +206,7 @@ module _ (setup : Setup) (lists : ListsKnown setup) where
       state = then;
       of_list = heap_on setup lists e es by stopped h mark.marking.known.has.of_list (next_words h.words) words_so only;
       good = good_then;
-      placing = λ a lt. sym (owes_nothing setup lists es by.legal.0 by.lead by.led run.Mark stopped a lt) ∙ ap (λ (m : Processor). uncounted m.task) (sym (state_stays setup e es a (apart setup lists e es by.legal seat_from a lt)));
+      placing = λ a lt. sym (owes_nothing setup lists es by.legal.0 by.lead by.led RunPhase.Mark stopped a lt) ∙ ap (λ (m : Processor). uncounted m.task) (sym (state_stays setup e es a (apart setup lists e es by.legal seat_from a lt)));
       others_place = λ a le. refl;
       sweeps = sweeps_none;
     }
@@ -235,12 +221,12 @@ module _ (setup : Setup) (lists : ListsKnown setup) where
     }
 
   -- With the store of the phase the world runs, and the walk begins.
-  module _ (e : Entry Op) (es : List (Entry Op)) (by : ByLead setup e es) (x : close.Closing) (is : by.lead.stage ≡ Close x) (at : x.stage ≡ closing.StorePhase) (k : IsSweeping setup es by.lead (over_all.opening by.lead.generation)) where
-    at_close : by.lead.stage ≡ Close (close.at_stage x closing.StorePhase)
+  module _ (e : Entry Op) (es : List (Entry Op)) (by : ByLead setup e es) (x : close.Closing) (is : by.lead.stage ≡ Close x) (at : x.stage ≡ CloseStage.StorePhase) (k : IsSweeping setup es by.lead (over_all.opening by.lead.generation)) where
+    at_close : by.lead.stage ≡ Close (close.at_stage x CloseStage.StorePhase)
     at_close = is ∙ ap (λ (p : CloseStage). Close (close.at_stage x p)) at
 
     tells : TellsNothing e.ask
-    tells = subst TellsNothing (sym (asked_at setup lists e es by (Close (close.at_stage x closing.StorePhase)) at_close)) refl
+    tells = subst TellsNothing (sym (asked_at setup lists e es by (Close (close.at_stage x CloseStage.StorePhase)) at_close)) refl
 
     pub runs_on : (d : Coordinating) → d.begun ≡ by.lead.begun → IsSweeping setup (e ∷ es) d (over_all.opening by.lead.generation)
     runs_on d same = sweeping_of setup lists (e ∷ es) d (over_all.opening by.lead.generation) 0

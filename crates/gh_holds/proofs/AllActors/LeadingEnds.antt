@@ -1,34 +1,19 @@
 -- Where a cycle's marking ends: nobody has anything in hand, the marked objects are those that a script reaches, and with the store of the next sweep generation they are swept.
 use Rattle.std.proofs.Common.{◌≡◌, ◌≢◌, ◌⊎◌, inl, inr, ℕ, zero, suc, ◌-◌, ◌<◌, ◌≤◌, refl, sym, ap, subst, ◌∙◌, arith, List, Some, None, true}
 use Rattle.std.proofs.lemmas.Bool.{cases_lt}
-use Rattle.gh_base.specs.declared.cell.Cell.TheVariants as cell
-use Rattle.gh_base.specs.declared.pack.TheConstants.{END}
+use Rattle.gh_holds.proofs.Vocabulary.{acks_of, Actor, actors_after, alloc_words, Arena, arena, began, began_words, BeginsCycle, birth_words, Cell, Close, CloseStage, Coordinating, Cycle, END, EndsClean, EndsMarked, Entry, Ever, ever, Good, Hands, HasGoneOn, Heap, IsBeginning, IsBeside, IsBounded, IsChecked, IsGrey, IsHeapOf, IsInCycle, IsKnown, IsLed, IsMade, IsMarked, IsMarkedObject, IsParked, IsPlacedAt, IsSeated, IsToBegin, Legal, ListsKnown, mark_words, MarkFacts, MarksToTheEnd, Name, not_beginning, nothing, Op, Placed, placed_there, Placing, processor_at, Reach, Row, row_bit, RunPhase, runs_are, Scanned, seated, Setup, stage_of, Stopped, those, Untouched, view, WaitsWithNone, Words, words}
 use Rattle.gh_base.specs.Shapes.{ShapesFit}
 use Rattle.gh_coord.specs.Closing as close
 use Rattle.gh_coord.specs.Handshake as leading
-use Rattle.gh_cycle.specs.Beside.{IsBeside}
-use Rattle.gh_cycle.specs.Since.{HasGoneOn}
-use Rattle.gh_marks.specs.Colours.{IsGrey, IsMarked, Placing, Scanned, Untouched}
-use Rattle.gh_phase.specs.declared.view.RunPhase.TheVariants as run
 use Rattle.gh_worker.specs.Listing as worker
 use Rattle.gh_worker.specs.MarkFacts as worker_marks
-use Rattle.gh_lists.specs.declared.handshake.Actor.TheVariants as actor
-use Rattle.gh_marked.proofs.Vocabulary.{acks_of, Actor, actors_after, alloc_words, Arena, arena, birth_words, Close, CloseStage, Coordinating, Cycle, EndsClean, Entry, Ever, ever, Good, Hands, Heap, holder_in, IsBeginning, IsBounded, IsChecked, IsHeapOf, IsInCycle, IsKnown, IsLed, IsMade, IsParked, IsPlacedAt, IsToBegin, Legal, mark_words, MarkFacts, MarksToTheEnd, Name, nothing, Op, Placed, processor_at, Reach, Row, row_bit, stage_of, Stopped, those, view, WaitsWithNone, Words, words}
-use Rattle.gh_lists.specs.Lists.{BeginsCycle}
-use Rattle.gh_marked.specs.State.{began, began_words}
-use Rattle.gh_marked.proofs.OneStep.Beside.{not_beginning}
-use Rattle.gh_marked.specs.Known.{ListsKnown}
-use Rattle.gh_lists.specs.Names.{placed_there}
+use Rattle.gh_marked.proofs.Vocabulary.{holder_in}
 use Rattle.gh_holds.proofs.AllActors.LeadingSeat.{parked}
-use Rattle.gh_lists.specs.Resting.{runs_are}
 use Rattle.gh_holds.proofs.AllActors.Stood.{Stays}
 use Rattle.gh_holds.proofs.AllActors.Tied.{is_tied}
-use Rattle.gh_lists.specs.Seats.{IsSeated, seated}
-use Rattle.gh_lists.specs.Handshake.{Setup}
-use Rattle.gh_holds.specs.Objects.{EndsMarked, IsMarkedObject}
 
 -- the world is stopped until the phase behind the next sweep generation is stored
-closing_post : (p : CloseStage) → close.is_marking p ≡ true → leading.close_post p ≡ Stopped run.Mark
+closing_post : (p : CloseStage) → close.is_marking p ≡ true → leading.close_post p ≡ Stopped RunPhase.Mark
 closing_post p on = grind arith
 
 module _ (setup : Setup) (lists : ListsKnown setup) where
@@ -58,14 +43,14 @@ module _ (setup : Setup) (lists : ListsKnown setup) where
     pub clean : EndsClean mark.marking.cycle mark.marking.shared
     clean = mark.ends (subst IsChecked (sym is) tt)
 
-    pub post : leading.post_at c.stage ≡ Stopped run.Mark
+    pub post : leading.post_at c.stage ≡ Stopped RunPhase.Mark
     post = grind (arith, closing_post)
 
     pub facts : (a : ℕ) → a < setup.layout.procs → MarkFacts mark.marking.cycle a mark.marking.shared (processor_at setup es a)
     facts a lt = mark.marking.processors a (processor_at setup es a) lt (runs_are setup es a lt)
 
     pub still_at : (a : ℕ) → a < setup.layout.procs → IsParked (leading.lead_of c).stops (stage_of (processor_at setup es a))
-    still_at a lt = parked setup lists es legal c led run.Mark post a lt
+    still_at a lt = parked setup lists es legal c led RunPhase.Mark post a lt
 
     -- nobody has anything in hand
     seats : (a : ℕ) → Hands a mark.marking.shared nothing
@@ -77,24 +62,24 @@ module _ (setup : Setup) (lists : ListsKnown setup) where
       worker_has w waits f = (subst (worker_marks.StageFacts mark.marking.cycle a mark.marking.shared w.held) waits.is_at f.stage_is).0
 
       go : (m : Actor) → at es a ≡ m → Hands a mark.marking.shared nothing
-      go (actor.Runs m) i =
-          let lt : a < setup.layout.procs = seat_of (actor.Runs m) i in
+      go (Actor.Runs m) i =
+          let lt : a < setup.layout.procs = seat_of (Actor.Runs m) i in
           (lists.known.marks.waits mark.marking.cycle a mark.marking.shared (processor_at setup es a) _ (still_at a lt) (facts a lt)).nothing_in_hand
-      go (actor.Marks w) i =
-          let lt : a < acks_of setup.layout = (seat_of (actor.Marks w) i).1 in
-          worker_has w ((lists.keeps es legal).workers_wait c run.Mark a w led post lt i) (mark.marking.workers a w lt i)
-      go (actor.Leads d) i = mark.marking.coordinator a (seat_of (actor.Leads d) i)
+      go (Actor.Marks w) i =
+          let lt : a < acks_of setup.layout = (seat_of (Actor.Marks w) i).1 in
+          worker_has w ((lists.keeps es legal).workers_wait c RunPhase.Mark a w led post lt i) (mark.marking.workers a w lt i)
+      go (Actor.Leads d) i = mark.marking.coordinator a (seat_of (Actor.Leads d) i)
 
     pub none_placing : (o a : ℕ) → mark.marking.shared.colour o ≢ Placing a
     none_placing o a i = absurd (let none : None ≡ Some o = ((seats a).has.is_reserved o).1 i in cc)
 
     -- no buffer has an entry
-    buffer_words_are : (b : ℕ) → mark.marking.shared.words (cell.Buffer b) ≡ h.words (cell.Buffer b)
-    buffer_words_are b = ap (λ (w : Words). w (cell.Buffer b)) mark.marking.known.beside.words
+    buffer_words_are : (b : ℕ) → mark.marking.shared.words (Cell.Buffer b) ≡ h.words (Cell.Buffer b)
+    buffer_words_are b = ap (λ (w : Words). w (Cell.Buffer b)) mark.marking.known.beside.words
 
-    free_buffer : (b : ℕ) → holder_in (mark.marking.shared.words (cell.Buffer b)) ≡ 0
-    free_buffer b = go (holder_in (mark.marking.shared.words (cell.Buffer b))) refl where
-      go : (n : ℕ) → holder_in (mark.marking.shared.words (cell.Buffer b)) ≡ n → holder_in (mark.marking.shared.words (cell.Buffer b)) ≡ 0
+    free_buffer : (b : ℕ) → holder_in (mark.marking.shared.words (Cell.Buffer b)) ≡ 0
+    free_buffer b = go (holder_in (mark.marking.shared.words (Cell.Buffer b))) refl where
+      go : (n : ℕ) → holder_in (mark.marking.shared.words (Cell.Buffer b)) ≡ n → holder_in (mark.marking.shared.words (Cell.Buffer b)) ≡ 0
       go zero i = i
       go (suc n) i = absurd (((seats n).holds.only b).0 (i ∙ omega arith))
 
@@ -105,10 +90,10 @@ module _ (setup : Setup) (lists : ListsKnown setup) where
       go (suc n) i =
           let below : 0 < mark.marking.shared.filled b = omega (arith, i) in
           let some = mark.marking.good.entries.some b 0 below in
-          let grey = mark.marking.good.entries.entered b 0 (mark.marking.shared.words (cell.Entry b 0) - 1) below (omega (arith, some)) in
-          absurd (clean.done.no_grey (mark.marking.shared.words (cell.Entry b 0) - 1) (subst IsGrey (sym grey) tt))
+          let grey = mark.marking.good.entries.entered b 0 (mark.marking.shared.words (Cell.Entry b 0) - 1) below (omega (arith, some)) in
+          absurd (clean.done.no_grey (mark.marking.shared.words (Cell.Entry b 0) - 1) (subst IsGrey (sym grey) tt))
 
-    pub buffers : (b : ℕ) → h.words (cell.Buffer b) ≡ 0
+    pub buffers : (b : ℕ) → h.words (Cell.Buffer b) ≡ 0
     buffers b = grind (arith, buffer_words_are, free_buffer, not_filled)
 
     -- The cursor is past the globals, and each stack is scanned or has ended.
@@ -116,23 +101,23 @@ module _ (setup : Setup) (lists : ListsKnown setup) where
     shared_words : mark.marking.shared.words ≡ words setup es
     shared_words = mark.marking.is.words_are
 
-    cursor_at : (n : ℕ) → setup.layout.globals ≡ n → n ≤ words setup es cell.Gcur
+    cursor_at : (n : ℕ) → setup.layout.globals ≡ n → n ≤ words setup es Cell.Gcur
     cursor_at zero i = omega arith
-    cursor_at (suc n) i = go (cases_lt n (mark.marking.shared.words cell.Gcur)) where
-      same : mark.marking.shared.words cell.Gcur ≡ words setup es cell.Gcur
-      same = ap (λ (w : Words). w cell.Gcur) shared_words
+    cursor_at (suc n) i = go (cases_lt n (mark.marking.shared.words Cell.Gcur)) where
+      same : mark.marking.shared.words Cell.Gcur ≡ words setup es Cell.Gcur
+      same = ap (λ (w : Words). w Cell.Gcur) shared_words
 
       last : n < mark.marking.cycle.arena.layout.globals
       last = let globals : mark.marking.cycle.arena.layout.globals ≡ setup.layout.globals = ap (λ (r : Arena). r.layout.globals) mark.marking.known.arena_is in omega (arith, globals, i)
 
-      go : (n < mark.marking.shared.words cell.Gcur) ⊎ (mark.marking.shared.words cell.Gcur ≤ n) → suc n ≤ words setup es cell.Gcur
+      go : (n < mark.marking.shared.words Cell.Gcur) ⊎ (mark.marking.shared.words Cell.Gcur ≤ n) → suc n ≤ words setup es Cell.Gcur
       go (inl past) = omega (arith, past, same)
       go (inr at) = absurd (let untouched = mark.marking.good.cursor.ahead n last at in let scanned = clean.done.globals n last in let no : Untouched ≡ Scanned = sym untouched ∙ scanned in cc)
 
-    stack_at : (g : ℕ) → g < setup.layout.goroutines → (words setup es (cell.Scanned g) ≡ c.begun) ⊎ (words setup es (cell.Scanned g) ≡ END)
+    stack_at : (g : ℕ) → g < setup.layout.goroutines → (words setup es (Cell.Scanned g) ≡ c.begun) ⊎ (words setup es (Cell.Scanned g) ≡ END)
     stack_at g lt =
         let there = clean.done.stacks g (subst (λ (r : Arena). g < r.layout.goroutines) (sym mark.marking.known.arena_is) lt) in
-        subst (λ (w : Words). (w (cell.Scanned g) ≡ c.begun) ⊎ (w (cell.Scanned g) ≡ END)) shared_words (subst (λ (k : ℕ). (mark.marking.shared.words (cell.Scanned g) ≡ k) ⊎ (mark.marking.shared.words (cell.Scanned g) ≡ END)) mark.marking.is.number_is there)
+        subst (λ (w : Words). (w (Cell.Scanned g) ≡ c.begun) ⊎ (w (Cell.Scanned g) ≡ END)) shared_words (subst (λ (k : ℕ). (mark.marking.shared.words (Cell.Scanned g) ≡ k) ⊎ (mark.marking.shared.words (Cell.Scanned g) ≡ END)) mark.marking.is.number_is there)
 
     -- The objects that are marked.
 
@@ -199,7 +184,7 @@ module _ (setup : Setup) (lists : ListsKnown setup) where
       clean = clean;
       cursor = cursor_at setup.layout.globals refl;
       stacks = stack_at;
-      buffers = λ b. subst (λ (w : Words). w (cell.Buffer b) ≡ 0) of.words_are (buffers b);
+      buffers = λ b. subst (λ (w : Words). w (Cell.Buffer b) ≡ 0) of.words_are (buffers b);
       hands = seats;
       reached = is_marked;
       unmarked = λ n a made at_a none r. not_unmarked n a made at_a none r;

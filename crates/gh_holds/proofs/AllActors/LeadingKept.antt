@@ -1,16 +1,11 @@
 -- The cycles that the coordinator keeps behind its step are those that were counted.
 use Rattle.std.proofs.Common.{◌≡◌, subst, List, ◌∷◌, slice_get, Some, arith}
-use Rattle.gh_coord.specs.Events.{by_event}
+use Rattle.gh_holds.proofs.Vocabulary.{AllWereCounted, by_event, Coordinating, CoordStage, Count, Entry, HoldsAt, ListsKnown, Op, Setup}
 use Rattle.gh_coord.specs.Keeping.{Kept}
 use Rattle.gh_coord.specs.Listing as coord
-use Rattle.gh_marked.proofs.Vocabulary.{Coordinating, CoordStage, Count, Entry, Op}
-use Rattle.gh_marked.specs.Known.{ListsKnown}
 use Rattle.gh_holds.proofs.AllActors.LeadingSeat.{ByLead}
 use Rattle.gh_holds.proofs.AllActors.LeadingTold as told
 use Rattle.gh_holds.proofs.AllActors.Starts.{counted_on}
-use Rattle.gh_lists.specs.Handshake.{Setup}
-use Rattle.gh_holds.specs.Objects.{AllWereCounted}
-use Rattle.gh_holds.specs.ActorsHold.{HoldsAt}
 
 module _ (setup : Setup) (lists : ListsKnown setup) where
   module _ (e : Entry Op) (es : List (Entry Op)) (by : ByLead setup e es) where

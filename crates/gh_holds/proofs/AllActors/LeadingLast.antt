@@ -1,26 +1,14 @@
 -- Once all is over: every processor is gone, so each goroutine has ended, and the objects that stand are those that a script reaches.
 use Rattle.std.proofs.Common.{◌≡◌, ◌↔◌, inl, inr, ◌⊎◌, ℕ, ◌*◌, ◌%◌, ◌^◌, ◌<◌, ◌≤◌, true, refl, sym, ap, subst, ◌∙◌, arith, List, [], ◌∷◌}
-use Rattle.gh_base.specs.declared.cell.Cell.TheVariants as cell
+use Rattle.gh_holds.proofs.Vocabulary.{acks_of, ActorSound, acts, AllIsTold, alloc_words, Arena, arena, AreSwept, Ask, BeginsCycle, birth_words, Cell, Close, Coordinating, CoordStage, CountsAreExact, Done, effect, EndedSo, EndsAllMarked, EndsCycle, Entry, Ever, ever, ever_stays, few_there, Gone, HasState, Heap, is_last_task, IsEnding, IsLed, IsMade, IsMarkedObject, IsNewThere, IsOf, IsPlacedAt, IsStartOf, IsStepIn, IsTold, last_of, last_phase, Layout, Lead, Leads, LeavesTheReached, Legal, legal_start, ListsKnown, marks_at, mod_below, Name, Op, page_words, party_of, place_of, Placed, placed, Polling, processor_at, processor_kind, Reach, Row, row_bit, RunPhase, runs_are, same_birth_same_name, Setup, stage_at, stage_of, start_of_start, started, State, Store, Task, those, view, Words, words}
 use Rattle.gh_coord.specs.Closing as close
 use Rattle.gh_coord.specs.Handshake as leading
 use Rattle.gh_coord.specs.Listing as coord
-use Rattle.gh_phase.specs.declared.view.RunPhase.TheVariants as run
-use Rattle.gh_lists.specs.Lists.{BeginsCycle}
-use Rattle.gh_lists.specs.Handshake.{Sound as ActorSound, Setup}
-use Rattle.gh_state.specs.Cycles.{AllIsTold, AreSwept}
-use Rattle.gh_holds.specs.ActorsHold.{EndedSo, IsNewThere, IsTold}
-use Rattle.gh_marked.specs.State.{HasState}
-use Rattle.gh_marked.specs.HoldVocabulary.{CountsAreExact, marks_at, State}
-use Rattle.gh_marked.proofs.Vocabulary.{acks_of, acts, alloc_words, Arena, arena, Ask, birth_words, Close, Coordinating, CoordStage, Done, effect, EndsCycle, Entry, Ever, ever, Gone, Heap, is_last_task, IsEnding, IsLed, IsMade, IsOf, IsPlacedAt, IsStartOf, IsStepIn, last_of, last_phase, Layout, Lead, Leads, Legal, mod_below, Name, Op, page_words, party_of, place_of, Placed, placed, Polling, processor_at, processor_kind, Reach, Row, row_bit, slot_row, stage_at, stage_of, started, Store, Task, those, view, Words, words}
-use Rattle.gh_marked.specs.Known.{ListsKnown}
-use Rattle.gh_lists.specs.Names.{few_there, same_birth_same_name}
+use Rattle.gh_marked.proofs.Vocabulary.{slot_row}
 use Rattle.gh_holds.proofs.AllActors.LeadingNumbers.{ends_once}
 use Rattle.gh_holds.proofs.AllActors.LeadingOnce.{begins_once}
 use Rattle.gh_holds.proofs.AllActors.LeadingSeat.{asked_at, by_step, from}
-use Rattle.gh_lists.specs.Resting.{ever_stays, runs_are}
-use Rattle.gh_lists.specs.Starts.{legal_start, start_of_start}
 use Rattle.gh_lists.specs.Made.{acted_no_fewer}
-use Rattle.gh_holds.specs.Objects.{EndsAllMarked, IsMarkedObject, LeavesTheReached}
 
 -- Who is gone has left.
 
@@ -28,7 +16,7 @@ has_left : (p : Polling) (q : Task) → stage_at p q ≡ Gone → is_last_task q
 has_left p q is = grind arith
 
 -- the request that ends a cycle
-pub ends_by : (l : Layout) (c : Coordinating) (p : CoordStage) → IsEnding p → (x : ℕ) × (coord.asks_at l c p ≡ Store cell.Gen x)
+pub ends_by : (l : Layout) (c : Coordinating) (p : CoordStage) → IsEnding p → (x : ℕ) × (coord.asks_at l c p ≡ Store Cell.Gen x)
 ends_by l c (Close y) is = (y.generation, ap (close.asks_at y) is)
 ends_by l c _ is = absurd is
 
@@ -51,7 +39,7 @@ module _ (setup : Setup) (lists : ListsKnown setup) where
 
   -- the objects that are marked where a cycle ends are so behind the store that ends it
   module _ (d : Entry Op) (ds : List (Entry Op)) (legal : Legal (those setup) (d ∷ ds)) (k : ℕ) (x : IsStepIn setup IsEnding k d ds) (n : Name) where
-    stores : (i : ℕ) × (d.ask ≡ Store cell.Gen i)
+    stores : (i : ℕ) × (d.ask ≡ Store Cell.Gen i)
     stores = let s = ends_by setup.layout x.lead x.lead.stage x.stage in (s.0, asked_at setup lists d ds (by_step setup IsEnding k d ds legal x) x.lead.stage refl ∙ s.1)
 
     abbrev Is : Words → Type 0
@@ -124,7 +112,7 @@ module _ (setup : Setup) (lists : ListsKnown setup) where
     abbrev h : Heap
     h = j.quiet.has.state.heap
 
-    finished : last_phase es ≡ run.Finished
+    finished : last_phase es ≡ RunPhase.Finished
     finished =
         let shakes = (lists.keeps es legal).shakes in
         let led_is : Leads shakes.lead ≡ Leads (leading.lead_of c) = sym shakes.leads ∙ ap place_of led in
@@ -193,7 +181,7 @@ module _ (setup : Setup) (lists : ListsKnown setup) where
     live_is =
         let exact : CountsAreExact has.state.end h.words = lists.known.told z has.state has.good j.quiet.over (swept es legal c j ends) (j.behind.ended.last c led was_last).1 in
         let pages : has.state.end.layout.pages ≡ setup.layout.pages = ap (λ (y : Layout). y.pages) has.good.layout in
-        let told : h.words cell.Live ≡ placed (alloc_words h.words) (slot_row (page_words h.words)) (16 * setup.layout.pages) = subst (λ (i : ℕ). h.words cell.Live ≡ placed (alloc_words h.words) (slot_row (page_words h.words)) (16 * i)) pages exact.live in
+        let told : h.words Cell.Live ≡ placed (alloc_words h.words) (slot_row (page_words h.words)) (16 * setup.layout.pages) = subst (λ (i : ℕ). h.words Cell.Live ≡ placed (alloc_words h.words) (slot_row (page_words h.words)) (16 * i)) pages exact.live in
         j.live ∙ (sym (all_told es legal c j ends).live ∙ (told ∙ ap (λ (w : Words). placed (alloc_words w) (slot_row (page_words w)) (16 * setup.layout.pages)) has.of_list.words_are))
 
     pub left_now : LeavesTheReached setup es c

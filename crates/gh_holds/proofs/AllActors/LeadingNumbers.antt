@@ -1,14 +1,8 @@
 -- A cycle begins once, ends once and is swept once: by the numbers of cycles, which only rise.
 use Rattle.std.proofs.Common.{◌≡◌, ◌⊎◌, inl, inr, ℕ, ◌+◌, ◌≤◌, refl, sym, ap, subst, ◌∙◌, arith, List, [], ◌∷◌}
-use Rattle.gh_base.specs.declared.cell.Cell.TheVariants as cell
+use Rattle.gh_holds.proofs.Vocabulary.{ahead_at, Cell, compared, Coordinating, CoordStage, EndsCycle, Entry, generation_after, IsBeginning, IsEnding, IsLed, IsStartOf, IsTelling, Layout, Legal, legal_start, ListsKnown, Op, opened_in, part_of, rises, Setup, SweepsCycle, those, words}
 use Rattle.gh_coord.specs.Listing as coord
-use Rattle.gh_lists.specs.Lists.{IsTelling, SweepsCycle}
-use Rattle.gh_lists.specs.Starts.{legal_start, compared}
-use Rattle.gh_marked.proofs.Vocabulary.{ahead_at, Coordinating, CoordStage, EndsCycle, Entry, generation_after, IsBeginning, IsEnding, IsLed, IsStartOf, Layout, Legal, Op, opened_in, part_of, those, words}
-use Rattle.gh_marked.specs.Known.{ListsKnown}
 use Rattle.gh_holds.proofs.AllActors.LeadingSeat.{by_step, ByLead, goes_at as goes_by, led_then}
-use Rattle.gh_lists.specs.Counting.{rises}
-use Rattle.gh_lists.specs.Handshake.{Setup}
 
 -- The words of the generation and of the last swept cycle, by the coordinator's step: but for the two stores, they are as they were.
 
@@ -50,10 +44,10 @@ module _ (setup : Setup) (lists : ListsKnown setup) where
   Led es c = IsLed setup es c
 
   abbrev swept : List (Entry Op) → ℕ
-  swept es = words setup es cell.Swept
+  swept es = words setup es Cell.Swept
 
   abbrev gen : List (Entry Op) → ℕ
-  gen es = words setup es cell.Gen
+  gen es = words setup es Cell.Gen
 
   -- the numbers at a list whose coordinator is at such a stage
   pub numbers_at : (es : List (Entry Op)) (c : Coordinating) (p : CoordStage) (opened numbered ended : ℕ) → Lawful es → Led es c → c.stage ≡ p → Numbered p opened numbered ended → (opened_in es ≡ swept es + opened) × (c.begun ≡ swept es + numbered) × (gen es ≡ generation_after (swept es + ended))
@@ -125,9 +119,6 @@ module _ (setup : Setup) (lists : ListsKnown setup) where
           swept_then = omega (arith, a0, a1, b0, m);
           up = record { swept_up = omega (arith, a0, b0, m); gen_up = omega (arith, a0, b0, m, a2, b2) };
         }
-
-    pub lead_rises : Rises es (e ∷ es)
-    lead_rises = grind arith
 
   one_rises : (e : Entry Op) (es : List (Entry Op)) → Lawful (e ∷ es) → Rises es (e ∷ es)
   one_rises e es legal = grind arith

@@ -1,23 +1,15 @@
 -- A cycle begins once: from the store of its phase on the coordinator opens none before the next request is cleared.
 use Rattle.std.proofs.Common.{◌≡◌, ◌⊎◌, inl, inr, ℕ, suc, ◌≤◌, ◌==◌, Bool, true, false, refl, sym, ap, subst, ◌∙◌, arith, List, [], ◌∷◌}
-use Rattle.gh_coord.specs.declared.open.OpenStage.TheVariants as open_stage
-use Rattle.gh_coord.specs.Events.{by_event}
+use Rattle.gh_holds.proofs.Vocabulary.{acks_of, Ask, BeginsCycle, by_event, compared, Coordinating, CoordStage, Done, Entry, IsBeginning, IsLed, IsStartOf, Layout, Legal, legal_start, ListsKnown, nat_tests, Op, Open, opened_after, opened_in, OpenStage, other, rises, Setup, those}
 use Rattle.gh_coord.specs.Listing as coord
 use Rattle.gh_coord.specs.Opening as opens_by
-use Rattle.gh_lists.specs.Lists.{BeginsCycle}
-use Rattle.gh_lists.specs.Starts.{legal_start, compared}
-use Rattle.gh_marked.proofs.Vocabulary.{acks_of, Ask, Coordinating, CoordStage, Done, Entry, IsBeginning, IsLed, IsStartOf, Layout, Legal, nat_tests, Op, Open, opened_after, opened_in, OpenStage, those}
-use Rattle.gh_marked.specs.Known.{ListsKnown}
 use Rattle.gh_holds.proofs.AllActors.LeadingNumbers.{beginning, numbers_at}
 use Rattle.gh_holds.proofs.AllActors.LeadingSeat.{asked_at, busy, by_step, ByLead, goes_at as goes_by, led_then}
-use Rattle.gh_lists.specs.Seats.{other}
-use Rattle.gh_lists.specs.Counting.{rises}
 use Rattle.gh_lists.specs.Steps.{led_by}
-use Rattle.gh_lists.specs.Handshake.{Setup}
 
 -- it opens no cycle, but may be about to clear the request for one
 abbrev IsToClear : OpenStage → Type 0
-IsToClear open_stage.ClearWant = Unit {0}
+IsToClear OpenStage.ClearWant = Unit {0}
 IsToClear _ = ⊥
 
 abbrev IsPast : CoordStage → Type 0

@@ -1,16 +1,11 @@
 -- The entry of the coordinator: which step it is, where it leads, and what of the processors it leaves; and a world that is stopped, in which nobody holds anything.
 use Rattle.std.proofs.Common.{◌≡◌, ℕ, ◌<◌, ◌≤◌, Bool, true, false, ltb, refl, sym, ap, subst, ◌∙◌, arith, List, ◌∷◌, None}
+use Rattle.gh_holds.proofs.Vocabulary.{acks_of, Actor, actors, actors_after, Arena, arena, Coordinating, CoordStage, Entry, Heap, is_busy, IsHeapOf, IsLed, IsParked, IsSeated, IsStepIn, lead_started, leads, Legal, ListsKnown, nat_tests, Op, Polling, processor_at, Right, RunPhase, runs_are, seated, seats_of, Setup, stage_at, stage_of, started, Stopped, sweep_of, Task, those, uncounted, view}
 use Rattle.gh_coord.specs.Handshake as leading
 use Rattle.gh_coord.specs.Listing as coord
 use Rattle.gh_mutator.specs.Sweeping as mutator
 use Rattle.gh_worker.specs.Listing as worker
-use Rattle.gh_lists.specs.declared.handshake.Actor.TheVariants as actor
-use Rattle.gh_lists.specs.Handshake.{asks, Setup}
-use Rattle.gh_marked.specs.Sweepers.{sweep_of}
-use Rattle.gh_marked.proofs.Vocabulary.{acks_of, Actor, actors, actors_after, Arena, arena, Coordinating, CoordStage, Entry, Heap, is_busy, IsHeapOf, IsLed, IsParked, IsStepIn, Legal, nat_tests, Op, Polling, processor_at, Right, RunPhase, seats_of, stage_at, stage_of, started, Stopped, Task, those, uncounted, view}
-use Rattle.gh_marked.specs.Known.{ListsKnown}
-use Rattle.gh_lists.specs.Resting.{runs_are}
-use Rattle.gh_lists.specs.Seats.{IsSeated, lead_started, leads, seated}
+use Rattle.gh_lists.specs.Handshake.{asks}
 
 -- nobody has the lock, holds a span, lays one out or frees the pages of one
 pub record IsStill (h : Heap) : Type 0 where
@@ -65,14 +60,14 @@ module _ (setup : Setup) where
         seat_of q i = subst (IsSeated setup.layout b) i (seated setup es b)
 
         go : (q : Actor) → at es b ≡ q → sweep_of (at es b) ≡ None
-        go (actor.Runs m) i =
-            let less : b < setup.layout.procs = seat_of (actor.Runs m) i in
+        go (Actor.Runs m) i =
+            let less : b < setup.layout.procs = seat_of (Actor.Runs m) i in
             ap sweep_of i ∙ parked_sweeps_none m.poll _ m.task ((lists.keeps es legal).processors_wait c phase b m led post (omega (arith, less)) i)
-        go (actor.Marks w) i =
-            let waits = (lists.keeps es legal).workers_wait c phase b w led post (seat_of (actor.Marks w) i).1 i in
+        go (Actor.Marks w) i =
+            let waits = (lists.keeps es legal).workers_wait c phase b w led post (seat_of (Actor.Marks w) i).1 i in
             ap sweep_of i ∙ ap worker.sweep_at waits.is_at
-        go (actor.Leads d) i =
-            let least = seat_of (actor.Leads d) i in
+        go (Actor.Leads d) i =
+            let least = seat_of (Actor.Leads d) i in
             let same : b ≡ acks_of setup.layout = omega (arith, least, lt) in
             ap sweep_of (ap (at es) same ∙ led) ∙ lead_sweeps_none c.stage phase post
 
@@ -96,10 +91,10 @@ module _ (setup : Setup) where
       pub from : setup.layout.procs ≤ e.actor
       from = let seat = by.seat in omega (arith, seat)
 
-      led_there : at es e.actor ≡ actor.Leads by.lead
+      led_there : at es e.actor ≡ Actor.Leads by.lead
       led_there = ap (at es) by.seat ∙ by.led
 
-      begun_is : started (actors setup) e.begun (at es e.actor) ≡ actor.Leads by.lead
+      begun_is : started (actors setup) e.begun (at es e.actor) ≡ Actor.Leads by.lead
       begun_is = ap (started (actors setup) e.begun) led_there ∙ lead_started setup e.begun by.lead
 
       pub busy : coord.is_busy by.lead.stage ≡ true

@@ -1,12 +1,9 @@
 -- One entry more of the coordinator, at whatever stage: all that holds of lists holds then.
 use Rattle.std.proofs.Common.{◌≡◌, true, refl, sym, ap, subst, List, ◌∷◌, arith}
-use Rattle.gh_coord.specs.declared.close.CloseStage.TheVariants as closing
+use Rattle.gh_holds.proofs.Vocabulary.{by_event, Close, CloseStage, Coordinating, CoordStage, Count, Done, Entry, Holds, HoldsAt, IsClosing, ListsKnown, LoadAck, LoadWant, Op, Open, Setup, Stop, Sweep, Tell, WasSo, whole}
 use Rattle.gh_coord.specs.Closing as close
-use Rattle.gh_coord.specs.Events.{by_event}
 use Rattle.gh_coord.specs.Handshake as leading
 use Rattle.gh_coord.specs.Listing as coord
-use Rattle.gh_marked.proofs.Vocabulary.{Close, CloseStage, Coordinating, CoordStage, Count, Done, Entry, LoadAck, LoadWant, Op, Open, Stop, Sweep, Tell}
-use Rattle.gh_marked.specs.Known.{ListsKnown}
 use Rattle.gh_holds.proofs.AllActors.LeadingCalm as calm
 use Rattle.gh_holds.proofs.AllActors.LeadingCloses.{runs_on, sweeping}
 use Rattle.gh_holds.proofs.AllActors.LeadingKept as kept
@@ -14,9 +11,6 @@ use Rattle.gh_holds.proofs.AllActors.LeadingSeat.{busy, ByLead}
 use Rattle.gh_holds.proofs.AllActors.LeadingSwept.{sweeps}
 use Rattle.gh_holds.proofs.AllActors.LeadingTold as told
 use Rattle.gh_holds.proofs.AllActors.LeadingWas.{Was, was_on}
-use Rattle.gh_lists.specs.Starts.{whole}
-use Rattle.gh_lists.specs.Handshake.{Setup}
-use Rattle.gh_holds.specs.ActorsHold.{Holds, HoldsAt, IsClosing, WasSo}
 
 module _ (setup : Setup) (lists : ListsKnown setup) where
   module _ (e : Entry Op) (es : List (Entry Op)) (was : Was setup lists es) (by : ByLead setup e es) where
@@ -27,11 +21,11 @@ module _ (setup : Setup) (lists : ListsKnown setup) where
     To d = HoldsAt setup (e ∷ es) d d.stage
 
     closes : (x : close.Closing) → by.lead.stage ≡ Close x → (p : CloseStage) → x.stage ≡ p → close.is_busy p ≡ true → IsClosing setup es by.lead p → To (coord.after_close (coord.at_stage u (Close (close.goes_at x p e.found))) (close.given (close.goes_at x p e.found)))
-    closes x is closing.LoadBank at b h = tt
-    closes x is closing.ClearBank at b h = tt
-    closes x is closing.StoreGen at b h = sweeping setup lists e es by x is at (subst leading.Marks (sym is) (ap close.is_marking at)) (was es by.lead (whole es) by.led (subst leading.Marks (sym is) (ap close.is_marking at))) _ refl
-    closes x is closing.StorePhase at b h = runs_on setup lists e es by x is at h _ refl
-    closes x is closing.Ended at b h = absurd cc
+    closes x is CloseStage.LoadBank at b h = tt
+    closes x is CloseStage.ClearBank at b h = tt
+    closes x is CloseStage.StoreGen at b h = sweeping setup lists e es by x is at (subst leading.Marks (sym is) (ap close.is_marking at)) (was es by.lead (whole es) by.led (subst leading.Marks (sym is) (ap close.is_marking at))) _ refl
+    closes x is CloseStage.StorePhase at b h = runs_on setup lists e es by x is at h _ refl
+    closes x is CloseStage.Ended at b h = absurd cc
 
     busy_at : (p : CoordStage) → by.lead.stage ≡ p → coord.is_busy p ≡ true
     busy_at p is = subst (λ (q : CoordStage). coord.is_busy q ≡ true) is (busy setup lists e es by)

@@ -1,28 +1,16 @@
 -- The coordinator sweeps all spans: over lists, what holds behind each of its steps. And a step of it in a stopped world, which leaves what is known of the heap.
 use Rattle.std.proofs.Common.{◌≡◌, ◌⊎◌, ℕ, ◌<◌, ◌≤◌, ◌==◌, true, false, refl, sym, ap, subst, ◌∙◌, arith, List, ◌∷◌, ◌++◌, Some, None}
-use Rattle.gh_base.specs.declared.cell.Cell.TheVariants as cell
-use Rattle.gh_coord.specs.declared.sweep_all.SweepAllStage.TheVariants as all
+use Rattle.gh_holds.proofs.Vocabulary.{acks_of, actors_after, ActorSound, Answer, answers_stay, Arena, arena, Ask, by, Cell, cell_of, Coordinating, CoordStage, effect, END, ended_in, Entry, ever_stays, given_stay, Heap, HoldsAt, IsAsItShould, IsHeapOf, IsInSweep, IsSweeping, Layout, Legal, ListsKnown, Load, MarksNothing, nat_tests, NobodyMarks, NotAcks, on_from, Op, option_to_list, own_stay, page_at, PassedBefore, Processor, processor_at, Quiet, Right, RunPhase, Setup, State, state_stays, Stopped, Sweep, sweep_of, SweepAllStage, SweepingAll, those, view, Walks, Words, words}
 use Rattle.gh_coord.specs.Handshake as leading
 use Rattle.gh_coord.specs.Listing as coord
 use Rattle.gh_coord.specs.SweepingAll as over
-use Rattle.gh_heap.specs.Moves.{Quiet}
-use Rattle.gh_phase.specs.declared.view.RunPhase.TheVariants as run
 use Rattle.gh_state.specs.Moves as state
 use Rattle.gh_sweep.specs.Listing as sweep
-use Rattle.gh_sweep.specs.Running.{on_from}
-use Rattle.gh_lists.specs.Handshake.{Sound as ActorSound, Setup}
-use Rattle.gh_holds.specs.ActorsHold.{HoldsAt, IsSweeping, NobodyMarks, page_at, Walks}
-use Rattle.gh_marked.specs.HoldVocabulary.{PassedBefore, State, SweepingAll}
-use Rattle.gh_marked.specs.Sweepers.{IsInSweep, sweep_of}
-use Rattle.gh_marked.proofs.Vocabulary.{acks_of, actors_after, Answer, Arena, arena, Ask, by, cell_of, Coordinating, CoordStage, effect, END, ended_in, Entry, Heap, IsAsItShould, IsHeapOf, Layout, Legal, Load, MarksNothing, nat_tests, Op, option_to_list, Processor, processor_at, Right, Stopped, Sweep, SweepAllStage, those, view, Words, words}
 use Rattle.gh_holds.proofs.AllActors.Aside as aside_of
 use Rattle.gh_holds.proofs.AllActors.Aside.{beside_of, IsBeside, IsOfSpans, keeps_buffers, Lands, spans_rows, TellsNothing}
-use Rattle.gh_lists.specs.Going.{NotAcks}
-use Rattle.gh_marked.specs.Known.{ListsKnown}
 use Rattle.gh_holds.proofs.AllActors.LeadingAside.{goes_on, IsBehind}
 use Rattle.gh_holds.proofs.AllActors.LeadingSeat.{asked_at, busy, ByLead, from, parked, sweeps_before, sweeps_then}
 use Rattle.gh_holds.proofs.AllActors.LeadingSweep.{awaited, loaded, stepped}
-use Rattle.gh_lists.specs.Resting.{answers_stay, ever_stays, given_stay, own_stay, state_stays}
 use Rattle.gh_holds.proofs.AllActors.SinceEnd.{quiet_keeps_end, sweep_keeps_end}
 use Rattle.gh_marked.proofs.OneStep.Sweepers as sweepers
 
@@ -39,18 +27,18 @@ module _ (setup : Setup) (lists : ListsKnown setup) where
     apart a lt = grind arith
 
   -- A stopped world, and a step of the coordinator on words of spans and counts.
-  module _ (e : Entry Op) (es : List (Entry Op)) (by_it : ByLead setup e es) (post : leading.post_at by_it.lead.stage ≡ Stopped run.Mark) (h : Heap) (of : IsHeapOf setup es h) (w : Words) (words_are : w ≡ effect h.words e.ask) (only : IsOfSpans e.ask) where
+  module _ (e : Entry Op) (es : List (Entry Op)) (by_it : ByLead setup e es) (post : leading.post_at by_it.lead.stage ≡ Stopped RunPhase.Mark) (h : Heap) (of : IsHeapOf setup es h) (w : Words) (words_are : w ≡ effect h.words e.ask) (only : IsOfSpans e.ask) where
     ge : setup.layout.procs ≤ e.actor
     ge = from setup lists e es by_it
 
     abbrev then : Heap
     then = with_words h w
 
-    pub scanned : (g : ℕ) → w (cell.Scanned g) ≡ h.words (cell.Scanned g)
-    scanned g = ap (λ (x : Words). x (cell.Scanned g)) words_are ∙ lists.known.footprints.leaves spans_rows e.ask h.words (cell.Scanned g) only refl
+    pub scanned : (g : ℕ) → w (Cell.Scanned g) ≡ h.words (Cell.Scanned g)
+    scanned g = ap (λ (x : Words). x (Cell.Scanned g)) words_are ∙ lists.known.footprints.leaves spans_rows e.ask h.words (Cell.Scanned g) only refl
 
-    pub buffer : (b : ℕ) → w (cell.Buffer b) ≡ h.words (cell.Buffer b)
-    buffer b = ap (λ (x : Words). x (cell.Buffer b)) words_are ∙ lists.known.footprints.leaves spans_rows e.ask h.words (cell.Buffer b) only refl
+    pub buffer : (b : ℕ) → w (Cell.Buffer b) ≡ h.words (Cell.Buffer b)
+    buffer b = ap (λ (x : Words). x (Cell.Buffer b)) words_are ∙ lists.known.footprints.leaves spans_rows e.ask h.words (Cell.Buffer b) only refl
 
     -- nobody marks still
     pub nobody_on : (cycle later : ℕ) → later ≡ cycle → NobodyMarks setup es cycle h.words → NobodyMarks setup (e ∷ es) later w
@@ -80,7 +68,7 @@ module _ (setup : Setup) (lists : ListsKnown setup) where
       same = record {
         sound = it.sound;
         pending = it.pending;
-        fine = lists.known.runs.stopped z a (view h) (view then) (processor_at setup es a) it.pending _ (parked setup lists es by_it.legal.0 by_it.lead by_it.led run.Mark post a lt) (record { locked = refl; holds = λ p. refl; laying = refl; freeing = refl; place = refl; ever = refl }) it.fine;
+        fine = lists.known.runs.stopped z a (view h) (view then) (processor_at setup es a) it.pending _ (parked setup lists es by_it.legal.0 by_it.lead by_it.led RunPhase.Mark post a lt) (record { locked = refl; holds = λ p. refl; laying = refl; freeing = refl; place = refl; ever = refl }) it.fine;
         answers = answers_stay setup e es a aside ∙ (it.answers ∙ ap (λ (y : List Answer). option_to_list it.pending ++ y) (sym (given_stay setup e es a aside)));
         notes = λ g its. it.notes g its ∙ sym (scanned g);
         ended = λ g its y. own_same g ∙ it.ended g its y;
@@ -99,7 +87,7 @@ module _ (setup : Setup) (lists : ListsKnown setup) where
       processors = stands;
       others = λ a le. right a (of.others a le);
       stacks = λ g. ((λ x. (of.stacks g).0 (sym (scanned g) ∙ x)), (λ x. scanned g ∙ (of.stacks g).1 x));
-      globals = λ i le. (ap (λ (x : Words). x (cell.Global i)) words_are ∙ lists.known.footprints.leaves spans_rows e.ask h.words (cell.Global i) only refl) ∙ of.globals i le;
+      globals = λ i le. (ap (λ (x : Words). x (Cell.Global i)) words_are ∙ lists.known.footprints.leaves spans_rows e.ask h.words (Cell.Global i) only refl) ∙ of.globals i le;
     }
 
   -- What holds while it is swept, as what is behind its page and the walk.
@@ -166,13 +154,13 @@ module _ (setup : Setup) (lists : ListsKnown setup) where
     here : setup.layout ≡ now.end.layout
     here = sym s.has.good.layout
 
-    generation : by_it.lead.generation ≡ now.heap.words cell.Gen
+    generation : by_it.lead.generation ≡ now.heap.words Cell.Gen
     generation =
         let own : w.generation ≡ by_it.lead.generation = subst (leading.SoundAt by_it.lead) is sound.1 in
         sym own ∙ (s.walks.generation_is ∙ sym s.has.good.sweep.generation)
 
     -- A load: the sweep of a span may begin with it.
-    module _ (at : ℕ) (asks : e.ask ≡ Load (cell.Page at)) (none : sweep_of (actors_after z setup.pacing setup.may es e.actor) ≡ None) (runs_none : coord.sweep_in by_it.lead ≡ None) where
+    module _ (at : ℕ) (asks : e.ask ≡ Load (Cell.Page at)) (none : sweep_of (actors_after z setup.pacing setup.may es e.actor) ≡ None) (runs_none : coord.sweep_in by_it.lead ≡ None) where
       tells : TellsNothing e.ask
       tells = subst TellsNothing (sym asks) refl
 
@@ -190,7 +178,7 @@ module _ (setup : Setup) (lists : ListsKnown setup) where
           (aside_of.quiet_good setup lists.known e es by_it.legal seat_from s.has none beside (λ over. tells))
           (aside_of.quiet_rests setup lists.known e es by_it.legal seat_from s.has none beside (λ over. tells))
           by_it.lead.generation (coord.asks setup.layout by_it.lead) e.found (sweep_of (actors_after z setup.pacing setup.may (e ∷ es) e.actor))
-          (generation ∙ sym (same_words cell.Gen))
+          (generation ∙ sym (same_words Cell.Gen))
           (by_it.legal.1.found ∙ (ap (λ (y : Words). y (cell_of e.ask)) (sym s.has.of_list.words_are) ∙ (sym (same_words (cell_of e.ask)) ∙ ap (λ (q : Ask). loaded_state.heap.words (cell_of q)) (asked_at setup lists e es by_it by_it.lead.stage refl))))
           (λ m same. lists.known.coordinator_sweeps.begins setup.layout by_it.lead e.found m sound runs_none (sym swept_then ∙ same))
 
@@ -208,41 +196,41 @@ module _ (setup : Setup) (lists : ListsKnown setup) where
       loads_still x y d same = record { has = aside_of.has_then setup lists.known e es by_it.legal seat_from s.has load; over = (loads_on d same).off.over; walks = walks_then x y; behind = (loads_on d same).behind; nobody = (loads_on d same).off.nobody }
 
     -- A step of the sweep that it runs.
-    module _ (at : ℕ) (m : sweep.Sweeping) (x : w.stage ≡ all.Sweep at m) where
+    module _ (at : ℕ) (m : sweep.Sweeping) (x : w.stage ≡ SweepAllStage.Sweep at m) where
       asks_m : e.ask ≡ sweep.asks setup.layout m
-      asks_m = asks_so (all.Sweep at m) x
+      asks_m = asks_so (SweepAllStage.Sweep at m) x
 
       runs_m : IsInSweep e.actor now (Some m)
-      runs_m = subst (IsInSweep e.actor now) (swept_before (all.Sweep at m) x) (s.has.sweeps e.actor by_it.legal.1.actor)
+      runs_m = subst (IsInSweep e.actor now) (swept_before (SweepAllStage.Sweep at m) x) (s.has.sweeps e.actor by_it.legal.1.actor)
 
       then_m : sweep_of (actors_after z setup.pacing setup.may (e ∷ es) e.actor) ≡ on_from m e.found
       then_m = grind (arith, nat_tests)
 
       abbrev step : Step
-      step = aside_of.by_sweep setup lists.known e es by_it.legal seat_from s.has m (swept_before (all.Sweep at m) x) asks_m then_m
+      step = aside_of.by_sweep setup lists.known e es by_it.legal seat_from s.has m (swept_before (SweepAllStage.Sweep at m) x) asks_m then_m
 
       abbrev sweeps_on : (d : Coordinating) → d.begun ≡ by_it.lead.begun → Behind (e ∷ es) d page
       sweeps_on d same = goes_on setup lists e es by_it other page before step
-          (aside_of.sweep_buffers setup lists.known e es by_it.legal seat_from s.has m (swept_before (all.Sweep at m) x) asks_m then_m)
+          (aside_of.sweep_buffers setup lists.known e es by_it.legal seat_from s.has m (swept_before (SweepAllStage.Sweep at m) x) asks_m then_m)
           (sweep_keeps_end z e.actor now _ step.allowed.of_sweep) d same
 
-      walks_m : Walks (state.moved z e.actor now step.move) (over.goes_at setup.layout w (all.Sweep at m) e.found)
-      walks_m = stepped z lists.known setup.layout w now s.has.good s.walks here e.actor at m e.found (record { is = x; runs = runs_m.0; busy = runs_m.1; found_is = found_so (all.Sweep at m) x; may = step.allowed })
+      walks_m : Walks (state.moved z e.actor now step.move) (over.goes_at setup.layout w (SweepAllStage.Sweep at m) e.found)
+      walks_m = stepped z lists.known setup.layout w now s.has.good s.walks here e.actor at m e.found (record { is = x; runs = runs_m.0; busy = runs_m.1; found_is = found_so (SweepAllStage.Sweep at m) x; may = step.allowed })
 
-      sweeps_still : Still (over.goes_at setup.layout w (all.Sweep at m) e.found)
+      sweeps_still : Still (over.goes_at setup.layout w (SweepAllStage.Sweep at m) e.found)
       sweeps_still d same = record { has = aside_of.has_then setup lists.known e es by_it.legal seat_from s.has step; over = (sweeps_on d same).off.over; walks = walks_m; behind = (sweeps_on d same).behind; nobody = (sweeps_on d same).off.nobody }
 
     goes_so : (p : SweepAllStage) → w.stage ≡ p → over.is_busy p ≡ true → Still (over.goes_at setup.layout w p e.found)
-    goes_so (all.LoadPage at) x b = loads_still at (asks_so (all.LoadPage at) x) (swept_before (all.LoadPage at) x) (swept_in (all.LoadPage at) x) _ (loaded z lists.known setup.layout w now s.has.good s.walks here at e.found (found_so (all.LoadPage at) x) x)
-    goes_so (all.Sweep at m) x b = sweeps_still at m x
-    goes_so (all.Await at) x b = loads_still at (asks_so (all.Await at) x) (swept_before (all.Await at) x) (swept_in (all.Await at) x) _ (awaited z lists.known setup.layout w now s.has.good s.walks here at e.found (found_so (all.Await at) x) x)
-    goes_so all.Ended x b = absurd cc
+    goes_so (SweepAllStage.LoadPage at) x b = loads_still at (asks_so (SweepAllStage.LoadPage at) x) (swept_before (SweepAllStage.LoadPage at) x) (swept_in (SweepAllStage.LoadPage at) x) _ (loaded z lists.known setup.layout w now s.has.good s.walks here at e.found (found_so (SweepAllStage.LoadPage at) x) x)
+    goes_so (SweepAllStage.Sweep at m) x b = sweeps_still at m x
+    goes_so (SweepAllStage.Await at) x b = loads_still at (asks_so (SweepAllStage.Await at) x) (swept_before (SweepAllStage.Await at) x) (swept_in (SweepAllStage.Await at) x) _ (awaited z lists.known setup.layout w now s.has.good s.walks here at e.found (found_so (SweepAllStage.Await at) x) x)
+    goes_so SweepAllStage.Ended x b = absurd cc
 
     abbrev After : SweepingAll → SweepAllStage → Coordinating
     After x p = coord.after_sweep (coord.at_stage u (Sweep x)) (over.given_at p)
 
     -- all pages are passed: it goes on to count
-    counts : (x : SweepingAll) → x.stage ≡ all.Ended → Still x → To (After x all.Ended)
+    counts : (x : SweepingAll) → x.stage ≡ SweepAllStage.Ended → Still x → To (After x SweepAllStage.Ended)
     counts x at still =
         let k : IsSweeping setup (e ∷ es) by_it.lead x = still by_it.lead refl in
         let passed : PassedBefore k.has.state k.has.state.end.layout.pages = subst (λ (q : SweepAllStage). PassedBefore k.has.state (page_at k.has.state q)) at k.walks.passed in
@@ -253,7 +241,7 @@ module _ (setup : Setup) (lists : ListsKnown setup) where
         }
 
     finish : (x : SweepingAll) (p : SweepAllStage) → x.stage ≡ p → Still x → To (After x p)
-    finish x all.Ended at still = counts x at still
+    finish x SweepAllStage.Ended at still = counts x at still
     finish x _ at still = still _ refl
 
     busy_so : over.is_busy w.stage ≡ true

@@ -1,23 +1,16 @@
 -- The coordinator reads what the sweep has counted, keeps it, and tells that the cycle is swept: what holds behind each of its steps.
 use Rattle.std.proofs.Common.{◌≡◌, ◌⊎◌, inl, inr, ℕ, zero, suc, Bool, true, false, cond, ltb, refl, sym, ap, subst, ◌∙◌, List, [], ◌∷◌, ◌++◌, length, slice_get, Some, arith}
-use Rattle.gh_coord.specs.declared.count.CountStage.TheVariants as counting
+use Rattle.gh_holds.proofs.Vocabulary.{AllIsTold, AllWereCounted, Arena, arena, Ask, cell_of, Coordinating, CoordStage, Count, CountStage, Done, Entry, HasRead, HoldsAt, IsCounting, IsRead, IsTold, ListsKnown, LoadAck, NotAcks, Op, Setup, State, tally_of, Tell, TellStage, WasCounted, Words}
 use Rattle.gh_coord.specs.declared.cycles.Cycle.{Cycle as CycleNumbers}
-use Rattle.gh_coord.specs.declared.tell.TellStage.TheVariants as telling
 use Rattle.gh_coord.specs.Counting as count
 use Rattle.gh_coord.specs.Listing as coord
 use Rattle.gh_coord.specs.Telling as tell
-use Rattle.gh_holds.specs.Objects.{AllWereCounted, WasCounted}
-use Rattle.gh_state.specs.Cycles.{AllIsTold}
-use Rattle.gh_holds.specs.ActorsHold.{HasRead, HoldsAt, IsCounting, IsRead, IsTelling, IsTold}
-use Rattle.gh_marked.specs.HoldVocabulary.{State, TallyWord, tally_of}
-use Rattle.gh_marked.proofs.Vocabulary.{Arena, arena, Ask, cell_of, Coordinating, CoordStage, Count, CountStage, Done, Entry, LoadAck, Op, Tell, TellStage, Words}
+use Rattle.gh_holds.specs.ActorsHold.{IsTelling}
+use Rattle.gh_marked.specs.HoldVocabulary.{TallyWord}
 use Rattle.gh_holds.proofs.AllActors.Aside.{telling_rows, TellsNothing}
-use Rattle.gh_lists.specs.Going.{NotAcks}
-use Rattle.gh_marked.specs.Known.{ListsKnown}
 use Rattle.gh_holds.proofs.AllActors.LeadingAside.{IsBehind, NotSweeps, told_on}
 use Rattle.gh_holds.proofs.AllActors.LeadingSeat.{asked_at, busy, ByLead}
 use Rattle.gh_holds.proofs.AllActors.Starts.{counted_on}
-use Rattle.gh_lists.specs.Handshake.{Setup}
 
 -- an item of the list with one more is one of the list, or that one
 one_of : (xs : List CycleNumbers) (x y : CycleNumbers) (i : ℕ) → slice_get (xs ++ x ∷ []) i ≡ Some y → ((j : ℕ) × (slice_get xs j ≡ Some y)) ⊎ (y ≡ x)
@@ -40,10 +33,10 @@ module _ (setup : Setup) (lists : ListsKnown setup) where
   Behind es c = IsBehind setup lists es c setup.layout.pages
 
   pub told_at : (es : List (Entry Op)) (c : Coordinating) (p : TellStage) → IsTelling setup es c p → Told es c
-  told_at es c telling.Ended k = absurd k
-  told_at es c telling.StoreTrigger k = k
-  told_at es c telling.StoreSwept k = k
-  told_at es c telling.StorePhase k = k
+  told_at es c TellStage.Ended k = absurd k
+  told_at es c TellStage.StoreTrigger k = k
+  told_at es c TellStage.StoreSwept k = k
+  told_at es c TellStage.StorePhase k = k
 
   module _ (e : Entry Op) (es : List (Entry Op)) (by : ByLead setup e es) where
     abbrev u : Coordinating
@@ -81,13 +74,13 @@ module _ (setup : Setup) (lists : ListsKnown setup) where
       count_busy : count.is_busy x.stage ≡ true
       count_busy = subst (λ (p : CoordStage). coord.is_busy p ≡ true) is (busy setup lists e es by)
 
-      read_now : x.stage ≡ counting.LoadTally → IsRead setup here.end (tally_of e.found)
+      read_now : x.stage ≡ CountStage.LoadTally → IsRead setup here.end (tally_of e.found)
       read_now y = grind (arith, all_told, found_at)
 
       count_goes : (p : CountStage) → x.stage ≡ p → count.is_busy p ≡ true → To (coord.after_count setup.layout (coord.at_stage u (Count (count.goes_at x p e.found))) (count.given (count.goes_at x p e.found)))
-      count_goes counting.LoadTally y b = record { quiet = (counting_on by.lead refl).off; behind = (counting_on by.lead refl).behind; read = read_now y }
-      count_goes (counting.LoadLive t) y b = record { quiet = (counting_on by.lead refl).off; behind = (counting_on by.lead refl).behind; live = found_at (counting.LoadLive t) y ∙ all_told.live }
-      count_goes (counting.Ended t) y b = absurd cc
+      count_goes CountStage.LoadTally y b = record { quiet = (counting_on by.lead refl).off; behind = (counting_on by.lead refl).behind; read = read_now y }
+      count_goes (CountStage.LoadLive t) y b = record { quiet = (counting_on by.lead refl).off; behind = (counting_on by.lead refl).behind; live = found_at (CountStage.LoadLive t) y ∙ all_told.live }
+      count_goes (CountStage.Ended t) y b = absurd cc
 
       pub counts : To (coord.goes_at setup.layout u (Count x) e.found)
       counts = grind (arith, count_busy, count_goes)
@@ -114,9 +107,9 @@ module _ (setup : Setup) (lists : ListsKnown setup) where
         read_tally p y = subst (HasRead setup here.end) y k.read
 
         kept_goes : (p : CountStage) → x.stage ≡ p → count.is_busy p ≡ true → Were (coord.after_count setup.layout (coord.at_stage u (Count (count.goes_at x p e.found))) (count.given (count.goes_at x p e.found)))
-        kept_goes counting.LoadTally y b = were
-        kept_goes (counting.LoadLive t) y b = λ i v at. kept_counted t (read_tally (counting.LoadLive t) y) (ltb (length by.lead.cycles.items) by.lead.cycles.room) i v at
-        kept_goes (counting.Ended t) y b = absurd cc
+        kept_goes CountStage.LoadTally y b = were
+        kept_goes (CountStage.LoadLive t) y b = λ i v at. kept_counted t (read_tally (CountStage.LoadLive t) y) (ltb (length by.lead.cycles.items) by.lead.cycles.room) i v at
+        kept_goes (CountStage.Ended t) y b = absurd cc
 
         pub keeps : Were (coord.goes_at setup.layout u (Count x) e.found)
         keeps = grind (arith, count_busy, kept_goes)
@@ -136,19 +129,19 @@ module _ (setup : Setup) (lists : ListsKnown setup) where
       told_then = record { quiet = telling_on.off; behind = telling_on.behind; live = k.live }
 
       -- in the last cycle it is done, else it goes on to the next
-      ended_goes : (b : Bool) → To (coord.at_stage (coord.at_stage u (Tell (record t { stage = telling.Ended }))) (cond b Done (LoadAck 0)))
+      ended_goes : (b : Bool) → To (coord.at_stage (coord.at_stage u (Tell (record t { stage = TellStage.Ended }))) (cond b Done (LoadAck 0)))
       ended_goes true = record { quiet = told_then.quiet; behind = told_then.behind; live = told_then.live }
       ended_goes false = told_then.quiet
 
-      stored_goes : (last : Bool) → To (coord.after_tell (coord.at_stage u (Tell (record t { stage = cond last telling.StorePhase telling.Ended }))) (tell.given_at (cond last telling.StorePhase telling.Ended)))
+      stored_goes : (last : Bool) → To (coord.after_tell (coord.at_stage u (Tell (record t { stage = cond last TellStage.StorePhase TellStage.Ended }))) (tell.given_at (cond last TellStage.StorePhase TellStage.Ended)))
       stored_goes true = record { quiet = told_then.quiet; behind = told_then.behind; live = told_then.live }
       stored_goes false = ended_goes u.is_last
 
       tell_goes : (p : TellStage) → To (coord.after_tell (coord.at_stage u (Tell (record t { stage = tell.behind t.is_last p }))) (tell.given_at (tell.behind t.is_last p)))
-      tell_goes telling.StoreTrigger = record { quiet = told_then.quiet; behind = told_then.behind; live = told_then.live }
-      tell_goes telling.StoreSwept = stored_goes t.is_last
-      tell_goes telling.StorePhase = ended_goes u.is_last
-      tell_goes telling.Ended = ended_goes u.is_last
+      tell_goes TellStage.StoreTrigger = record { quiet = told_then.quiet; behind = told_then.behind; live = told_then.live }
+      tell_goes TellStage.StoreSwept = stored_goes t.is_last
+      tell_goes TellStage.StorePhase = ended_goes u.is_last
+      tell_goes TellStage.Ended = ended_goes u.is_last
 
       pub tells : To (coord.goes_at setup.layout u (Tell t) e.found)
       tells = grind (arith, tell_goes)

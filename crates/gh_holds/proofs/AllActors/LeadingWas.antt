@@ -1,10 +1,8 @@
 -- What was said of the starts of a list goes on to be so behind the coordinator's step: where it tells that a cycle is swept, what was not reached is freed; and where it ends one, what a script reaches is marked.
 use Rattle.std.proofs.Common.{◌≡◌, inr, ℕ, refl, sym, ap, subst, ◌∙◌, List, ◌∷◌, arith}
+use Rattle.gh_holds.proofs.Vocabulary.{Arena, arena, BeginsCycle, Close, Coordinating, CoordStage, EndsAllMarked, EndsMarked, Entry, HoldsAt, IsEnding, IsLed, IsStartOf, IsStepIn, IsTelling, ListsKnown, Op, Setup, Tell, WasMarked, WasSo, whole}
 use Rattle.gh_coord.specs.Closing as close
 use Rattle.gh_coord.specs.Handshake as leading
-use Rattle.gh_lists.specs.Lists.{BeginsCycle, IsTelling}
-use Rattle.gh_marked.proofs.Vocabulary.{Arena, arena, Close, Coordinating, CoordStage, Entry, IsEnding, IsLed, IsStartOf, IsStepIn, Op, Tell, WasMarked}
-use Rattle.gh_marked.specs.Known.{ListsKnown}
 use Rattle.gh_holds.proofs.AllActors.LeadingEnds.{ends_marked}
 use Rattle.gh_holds.proofs.AllActors.LeadingLast.{marked_were}
 use Rattle.gh_holds.proofs.AllActors.LeadingNumbers.{fresh}
@@ -12,10 +10,6 @@ use Rattle.gh_holds.proofs.AllActors.LeadingSeat.{ByLead, from}
 use Rattle.gh_holds.proofs.AllActors.LeadingTold.{Told, told_at, told_then}
 use Rattle.gh_holds.proofs.AllActors.Others.{no_full}
 use Rattle.gh_holds.proofs.AllActors.Starts.{ends_on, Frees, frees_on}
-use Rattle.gh_lists.specs.Starts.{whole}
-use Rattle.gh_lists.specs.Handshake.{Setup}
-use Rattle.gh_holds.specs.Objects.{EndsAllMarked, EndsMarked}
-use Rattle.gh_holds.specs.ActorsHold.{HoldsAt, WasSo}
 
 -- it does not both end a cycle's marking and tell that one is swept
 not_ending : (p : CoordStage) → IsEnding p → IsTelling p → ⊥

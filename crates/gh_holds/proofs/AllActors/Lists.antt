@@ -1,35 +1,17 @@
 -- What holds after every legal list of all actors: while a cycle is marked there is a state of marking, and what is said of the heap goes with it.
 use Rattle.std.proofs.Common.{◌≡◌, ◌+◌, ◌^◌, ◌<◌, ◌≤◌, List, ◌∷◌, refl, subst, arith}
-use Rattle.gh_base.specs.declared.cell.Cell.TheVariants as cell
-use Rattle.gh_base.specs.Cells.{Words}
-use Rattle.gh_coord.specs.declared.coord.CoordStage.{CoordStage}
-use Rattle.gh_coord.specs.declared.coord.CoordStage.TheVariants.{Done}
+use Rattle.gh_holds.proofs.Vocabulary.{acks_of, Cell, Coordinating, CoordStage, CycleIsDrawn, Done, Entry, Given, GlobalsAreCounted, goes_then, HasState, Holds, HoldsAfter, HoldsAt, InCycles, is_drawn, IsBeginning, IsEnding, IsInCycle, IsMarking, IsStartOf, IsTelling, LeavesTheReached, led_then, legal_start, ListsKnown, MarksToTheEnd, may_of, Op, setup_for, those, Wanted, whole, Words, words}
 use Rattle.gh_coord.specs.Handshake as leading
-use Rattle.gh_holds.specs.Objects.{LeavesTheReached}
-use Rattle.gh_lists.specs.Lists.{IsEnding, IsTelling, may_of, Given, setup_for}
-use Rattle.gh_holds.specs.ActorsHold.{Holds, HoldsAt}
-use Rattle.gh_marked.specs.State.{HasState, IsInCycle, IsMarking}
-use Rattle.gh_marked.specs.HoldVocabulary.{acks_of, Coordinating, Entry, IsBeginning, IsStartOf, Op, words}
-use Rattle.gh_lists.specs.Handshake.{those}
-use Rattle.gh_marked.specs.Scanned.{GlobalsAreCounted}
-use Rattle.gh_lists.specs.Starts.{legal_start, whole}
 use Rattle.gh_holds.proofs.AllActors.Begins.{is_ready}
 use Rattle.gh_marked.proofs.OneStep.ForTypes.{for_types}
-use Rattle.gh_lists.specs.Going.{goes_then, led_then}
-use Rattle.gh_marked.specs.Known.{ListsKnown}
 use Rattle.gh_holds.proofs.AllActors.LeadingLast.{left_now}
 use Rattle.gh_holds.proofs.AllActors.Scanned.{few_scanned}
 use Rattle.gh_holds.proofs.AllActors.Steps as steps
 use Rattle.gh_holds.proofs.AllActors.Top as top
 use Rattle.gh_holds.proofs.AllActors.Until.{so_far, until}
-use Rattle.gh_marked.proofs.OneStep.Wanted.{Wanted}
 use Rattle.gh_holds.proofs.AllActors.WithinTwo.{within_two}
-use Rattle.gh_holds.specs.EveryList.{InCycles, HoldsAfter}
-use Rattle.gh_marked.specs.Drawn.{CycleIsDrawn}
-use Rattle.gh_marked.specs.Drawing.{is_drawn}
 use Rattle.gh_holds.specs.HasAt.{has_at}
 use Rattle.gh_holds.proofs.AllActors.Tied.{is_tied}
-use Rattle.gh_marked.specs.Marked.{MarksToTheEnd}
 use Rattle.gh_marked.specs.EveryCycle.{EveryCycleIsMarked, EveryGlobalIsCounted}
 
 module _ (given : Given) (wanted : Wanted) (lists : ListsKnown (setup_for given)) (marks : EveryCycleIsMarked) (counted : EveryGlobalIsCounted) where
@@ -71,13 +53,13 @@ module _ (given : Given) (wanted : Wanted) (lists : ListsKnown (setup_for given)
 
   -- The cursor of globals: its word does not begin anew while a cycle is marked; it is 0 where one begins, and past the globals where its marking ends.
 
-  cursor_small : (es : List (Entry Op)) (c : Coordinating) → Lawful es → Led es c → leading.Marks c.stage → words (setup_for given) es cell.Gcur + 1 < 2 ^ 64
-  cursor_small es c legal led on = let m = (marked es c legal led on).marking in subst (λ (w : Words). w cell.Gcur + 1 < 2 ^ 64) m.is.words_are (wanted.small m.cycle m.shared m.good)
+  cursor_small : (es : List (Entry Op)) (c : Coordinating) → Lawful es → Led es c → leading.Marks c.stage → words (setup_for given) es Cell.Gcur + 1 < 2 ^ 64
+  cursor_small es c legal led on = let m = (marked es c legal led on).marking in subst (λ (w : Words). w Cell.Gcur + 1 < 2 ^ 64) m.is.words_are (wanted.small m.cycle m.shared m.good)
 
-  cursor_clear : (es : List (Entry Op)) (c : Coordinating) → Lawful es → Led es c → IsBeginning c.stage → words (setup_for given) es cell.Gcur ≡ 0
+  cursor_clear : (es : List (Entry Op)) (c : Coordinating) → Lawful es → Led es c → IsBeginning c.stage → words (setup_for given) es Cell.Gcur ≡ 0
   cursor_clear es c legal led at_first = (is_ready (setup_for given) lists es c legal led at_first c.stage at_first (holds es legal c led).at).1
 
-  cursor_passed : (e : Entry Op) (es : List (Entry Op)) (c : Coordinating) → Lawful (e ∷ es) → Led es c → e.actor ≡ acks_of given.layout → IsEnding c.stage → given.layout.globals ≤ words (setup_for given) es cell.Gcur
+  cursor_passed : (e : Entry Op) (es : List (Entry Op)) (c : Coordinating) → Lawful (e ∷ es) → Led es c → e.actor ≡ acks_of given.layout → IsEnding c.stage → given.layout.globals ≤ words (setup_for given) es Cell.Gcur
   cursor_passed e es c legal led seat ending =
       let x = led_then (setup_for given) (e ∷ es) in
       ((holds (e ∷ es) legal x.lead x.led_by).was.ends e es c.begun (whole (e ∷ es)) (record { lead = c; led = led; by = seat; stage = ending; cycle = refl })).cursor

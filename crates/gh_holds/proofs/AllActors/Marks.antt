@@ -1,22 +1,17 @@
 -- While a cycle is marked: what is known of the heap says what is known of its objects, and lasts while workers and the coordinator step.
 use Rattle.std.proofs.Common.{◌≢◌, ℕ, false, refl, sym, subst, List, arith}
-use Rattle.gh_base.specs.Footprints.{Footprint, Writes}
+use Rattle.gh_holds.proofs.Vocabulary.{Arena, arena, AreWords, Ask, Check, Close, CloseStage, Coordinating, CoordStage, Cycle, Entry, Footprint, goes, GoesTogether, Good, IsBeginning, IsKnown, Known, Layout, mark_words, Marking, MarkingGood, MarkOn, Op, Open, OpenStage, Setup, stays, StopAgain, StopStage, view, Watch, Went, Writes}
 use Rattle.gh_base.specs.Footprints as row
 use Rattle.gh_marks.specs.Knows.{KnowsObjects}
 use Rattle.gh_marks.specs.Laws.{MarksStayWords}
-use Rattle.gh_marks.specs.Moves.{goes, stays}
-use Rattle.gh_cycle.specs.Beside.{IsBeside as GoesTogether}
-use Rattle.gh_coord.specs.declared.close.CloseStage.TheVariants as close_stage
 use Rattle.gh_coord.specs.Closing as close
 use Rattle.gh_coord.specs.Handshake as leading
 use Rattle.gh_coord.specs.Listing as coord
 use Rattle.gh_coord.specs.Opening as opens_by
 use Rattle.gh_coord.specs.Stopping as stop
 use Rattle.gh_coord.specs.Watching as watch
-use Rattle.gh_marked.proofs.Vocabulary.{Arena, arena, AreWords, Ask, Check, Close, CloseStage, Coordinating, CoordStage, Cycle, Entry, Good, IsBeginning, IsKnown, Layout, mark_words, Marking, MarkingGood, MarkOn, Op, Open, OpenStage, StopAgain, StopStage, view, Watch, WatchStage, Went}
+use Rattle.gh_marked.proofs.Vocabulary.{WatchStage}
 use Rattle.gh_holds.proofs.AllActors.Aside.{beside_rows}
-use Rattle.gh_marked.specs.Known.{Known}
-use Rattle.gh_lists.specs.Handshake.{Setup}
 
 -- mark words are words behind moves
 pub words_stay : MarksStayWords → (z : Cycle) (a : ℕ) (s t : Marking) → Went z a s t → AreWords (mark_words s.words) → AreWords (mark_words t.words)
@@ -50,10 +45,10 @@ module _ (l : Layout) (s : Coordinating) where
 
   -- it ends no cycle
   abbrev StaysMarked : CoordStage → Type 0
-  StaysMarked (Close c) = c.stage ≢ close_stage.StoreGen
+  StaysMarked (Close c) = c.stage ≢ CloseStage.StoreGen
   StaysMarked _ = Unit {0}
 
-  closes : (c : close.Closing) (p : CloseStage) → p ≢ close_stage.StoreGen → IsOfMarking (close.asks_at c p)
+  closes : (c : close.Closing) (p : CloseStage) → p ≢ CloseStage.StoreGen → IsOfMarking (close.asks_at c p)
   closes c p other = grind arith
 
   pub goes_on_marked : (p : CoordStage) → leading.Marks p → StaysMarked p → IsOfMarking (coord.asks_at l s p)

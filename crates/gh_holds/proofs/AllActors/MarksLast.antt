@@ -1,33 +1,17 @@
 -- While a cycle is marked, what is known of the heap lasts behind an entry of a worker or of the coordinator.
 use Rattle.std.proofs.Common.{◌≡◌, ◌≢◌, ◌⊎◌, inl, inr, ℕ, ◌%◌, ◌<◌, ◌≤◌, ◌==◌, Bool, true, false, refl, sym, ap, subst, ◌∙◌, arith, List, ◌∷◌, Some, None}
-use Rattle.gh_base.specs.declared.cell.Cell.TheVariants as cell
+use Rattle.gh_holds.proofs.Vocabulary.{acks_of, Actor, actors_after, Arena, arena, AreWords, began, began_words, begins, Cell, Coordinating, CoordinatorGoes, CoordStage, Cycle, drawn_then, Entry, Ever, ever, ever_stays, goes_on, goes_so, Good, HasGoneOn, HasState, Heap, IsInCycle, IsKnown, IsLed, IsOf, IsToBegin, IsTogether, IsUnderWay, last_was, leaves, Legal, ListsKnown, mark_words, Marking, MarkingGood, MarksAlone, mod_below, nat_tests, Op, other, Placing, Quiet, Setup, State, sweep_at, sweep_of, those, view, Went, Words, words}
 use Rattle.gh_coord.specs.Handshake as leading
 use Rattle.gh_coord.specs.Listing as coord
-use Rattle.gh_coord.specs.Listing.{sweep_at}
-use Rattle.gh_cycle.specs.Beside.{IsBeside as IsTogether, MarksAlone}
-use Rattle.gh_cycle.specs.Since.{HasGoneOn}
-use Rattle.gh_heap.specs.Moves.{Quiet}
-use Rattle.gh_marks.specs.Colours.{Placing}
 use Rattle.gh_worker.specs.Listing as worker
 use Rattle.gh_worker.specs.Sound.{marks}
-use Rattle.gh_lists.specs.declared.handshake.Actor.TheVariants as actor
-use Rattle.gh_lists.specs.Handshake.{Setup}
-use Rattle.gh_marked.specs.State.{began, began_words, HasState, IsUnderWay}
-use Rattle.gh_marked.specs.Sweepers.{sweep_of}
-use Rattle.gh_marked.proofs.Vocabulary.{acks_of, Actor, actors_after, Arena, arena, AreWords, Coordinating, CoordStage, Cycle, Entry, Ever, ever, Good, Heap, IsInCycle, IsKnown, IsLed, IsOf, IsToBegin, Legal, mark_words, Marking, MarkingGood, mod_below, nat_tests, Op, State, those, view, Went, Words, words}
 use Rattle.gh_holds.proofs.AllActors.Aside as aside
 use Rattle.gh_holds.proofs.AllActors.Aside.{beside_rows, IsBeside, quiet_of, TellsNothing}
-use Rattle.gh_marked.specs.Drawing.{drawn_then}
-use Rattle.gh_lists.specs.Going.{last_was}
-use Rattle.gh_marked.specs.Known.{ListsKnown}
 use Rattle.gh_holds.proofs.AllActors.Marks.{begins_marked, goes_on_marked, IsOfMarking, marking_rows, stays_marked, words_stay}
-use Rattle.gh_lists.specs.Resting.{ever_stays}
 use Rattle.gh_holds.proofs.AllActors.Stood.{quiet_stays, Stays}
 use Rattle.gh_marked.proofs.OneStep.Sweepers as sweepers
 use Rattle.gh_holds.proofs.AllActors.Tied.{is_of_heap}
 use Rattle.gh_marked.proofs.OneStep.WorkersSweep as sweeping
-use Rattle.gh_marked.specs.Checking.{begins, CoordinatorGoes, goes_on, goes_so, leaves}
-use Rattle.gh_lists.specs.Seats.{other}
 use Rattle.gh_lists.specs.Steps as seats
 
 module _ (setup : Setup) (lists : ListsKnown setup)
@@ -45,8 +29,8 @@ module _ (setup : Setup) (lists : ListsKnown setup)
   its : seats.Step setup e es
   its = seats.step setup e es lists.known.writes legal (lists.keeps es legal.0)
 
-  one_lead : (xs : List (Entry Op)) (c d : Coordinating) → at xs n ≡ actor.Leads c → at xs n ≡ actor.Leads d → c ≡ d
-  one_lead xs c d x y = let both : actor.Leads c ≡ actor.Leads d = sym x ∙ y in cc
+  one_lead : (xs : List (Entry Op)) (c d : Coordinating) → at xs n ≡ Actor.Leads c → at xs n ≡ Actor.Leads d → c ≡ d
+  one_lead xs c d x y = let both : Actor.Leads c ≡ Actor.Leads d = sym x ∙ y in cc
 
   -- where a cycle is under way nobody sweeps
   module _ (has : HasState setup es) (under : IsUnderWay has.state) where
@@ -57,7 +41,7 @@ module _ (setup : Setup) (lists : ListsKnown setup)
     none_before = sweepers.none_under_way lists.known z e.actor has.state under_told (sweep_of (at es e.actor)) (has.sweeps e.actor legal.1.actor)
 
   -- a worker's step
-  module _ (w : worker.Working) (is : at es e.actor ≡ actor.Marks w) where
+  module _ (w : worker.Working) (is : at es e.actor ≡ Actor.Marks w) where
     -- it runs no sweep
     worker_marks : worker.sweep_in w ≡ None → IsOfMarking e.ask
     worker_marks none = subst IsOfMarking (sym (sweeping.asked setup lists e es legal w is)) (lists.known.footprints.among marks marking_rows (worker.asks setup.layout w) refl (lists.known.workers.marks_alone setup.layout w none).writes)
@@ -220,6 +204,6 @@ module _ (setup : Setup) (lists : ListsKnown setup)
       gone_on = since.1;
       stood = since.2;
       drawn = drawn_then setup lists.known.drawn c e es s t step.good step.went step.words_are (is_of_heap setup lists.known (e ∷ es) has_then c t k.arena_is step.good_then together) k.drawn;
-      counts = (lists.known.footprints.leaves marking_rows e.ask k.has.state.heap.words cell.Tally marking refl ∙ k.counts.0, lists.known.footprints.leaves marking_rows e.ask k.has.state.heap.words cell.Live marking refl ∙ k.counts.1);
+      counts = (lists.known.footprints.leaves marking_rows e.ask k.has.state.heap.words Cell.Tally marking refl ∙ k.counts.0, lists.known.footprints.leaves marking_rows e.ask k.has.state.heap.words Cell.Live marking refl ∙ k.counts.1);
       marks_fit = subst (λ (w : Words). AreWords (mark_words w)) same_words (words_stay lists.known.mark_words c e.actor s t step.went (subst (λ (w : Words). AreWords (mark_words w)) (sym k.beside.words) k.marks_fit));
     }

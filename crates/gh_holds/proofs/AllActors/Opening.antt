@@ -1,21 +1,7 @@
 -- Before the first step the heap is empty and calm, every processor is at rest, and no cycle was begun.
 use Rattle.std.proofs.Common.{◌≡◌, ℕ, ◌%◌, ◌<◌, false, [], None, refl, sym, ◌∙◌, arith, inl, inr}
-use Rattle.std.proofs.lemmas.Nat.Bits.{bit_at-zero}
-use Rattle.gh_base.specs.declared.value.Name.{Name}
-use Rattle.gh_base.specs.Cells.{seats_of}
-use Rattle.gh_base.specs.Rows.{alloc_words, row_bit}
+use Rattle.gh_holds.proofs.Vocabulary.{acks_of, Actor, actors_after, alloc_words, Arena, arena, at_seat, bit_at-zero, Coordinating, from_field, from_global, from_register, Good, Heap, Holds, IsAsItShould, IsHeapOf, IsInSweep, IsLed, IsQuiet, Known, Name, opening, opening_ever, opening_processor, opening_words, Reach, row_bit, seats_of, Setup, State, sweep_of, view}
 use Rattle.gh_coord.specs.Listing as coord
-use Rattle.gh_state.specs.Cycles.{opening}
-use Rattle.gh_model.specs.Ever.{from_field, from_global, from_register, opening_ever}
-use Rattle.gh_mutator.specs.Processor.{opening_processor}
-use Rattle.gh_lists.specs.declared.handshake.Actor.TheVariants as actor
-use Rattle.gh_marked.specs.Sweepers.{IsInSweep, sweep_of}
-use Rattle.gh_holds.specs.ActorsHold.{Holds, IsQuiet}
-use Rattle.gh_marked.specs.State.{IsAsItShould, IsHeapOf}
-use Rattle.gh_marked.specs.HoldVocabulary.{acks_of, actors_after, arena, Arena, Coordinating, Good, Heap, IsLed, opening_words, Reach, State, view}
-use Rattle.gh_lists.specs.Going.{at_seat}
-use Rattle.gh_marked.specs.Known.{Known}
-use Rattle.gh_lists.specs.Handshake.{Setup}
 
 nothing_reached : (n : Name) → Reach opening_ever n → ⊥
 nothing_reached n (from_global k n' e) = absurd (cc)
@@ -88,7 +74,7 @@ module _ (setup : Setup) (known : Known) where
   holds_first = grind (arith, quiet, sweeps)
 
   is_first : (c : Coordinating) → IsLed setup [] c → first ≡ c
-  is_first c led = let both : actor.Leads first ≡ actor.Leads c = sym (at_seat setup) ∙ led in cc
+  is_first c led = let both : Actor.Leads first ≡ Actor.Leads c = sym (at_seat setup) ∙ led in cc
 
   -- before the first step
   pub opens : (c : Coordinating) → IsLed setup [] c → Holds setup [] c

@@ -1,12 +1,7 @@
 -- What was said of the starts of a list, behind an entry of another than the coordinator.
 use Rattle.std.proofs.Common.{◌≡◌, ℕ, ◌<◌, ◌≤◌, true, sym, ap, ◌∙◌, arith, List, ◌∷◌, Some, None}
-use Rattle.gh_lists.specs.Lists.{IsTelling}
-use Rattle.gh_marked.proofs.Vocabulary.{acks_of, Act, arena, CoordStage, deeds, done_at, Entry, IsBeginning, IsEnding, IsFullFor, IsStepIn, Legal, Op, Processor, processor_kind, those, words}
-use Rattle.gh_marked.specs.Known.{Known}
-use Rattle.gh_lists.specs.Resting.{rests, rests_on}
+use Rattle.gh_holds.proofs.Vocabulary.{acks_of, Act, arena, CoordStage, deeds, done_at, Entry, IsBeginning, IsEnding, IsFullFor, IsStepIn, IsTelling, Known, Legal, Op, Processor, processor_kind, rests, rests_on, Setup, those, WasSo, words}
 use Rattle.gh_holds.proofs.AllActors.Starts.{ends_on, frees_on, FreesNow}
-use Rattle.gh_lists.specs.Handshake.{Setup}
-use Rattle.gh_holds.specs.ActorsHold.{WasSo}
 
 module _ (setup : Setup) (known : Known)
     (e : Entry Op) (es : List (Entry Op)) (legal : Legal (those setup) (e ∷ es)) where

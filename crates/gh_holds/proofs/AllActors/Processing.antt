@@ -1,37 +1,27 @@
 -- One entry more of a processor: what holds after every list holds then, whatever the coordinator's stage, but that of marking alone.
-use Rattle.std.proofs.Common.{◌≡◌, ℕ, ◌+◌, ◌<◌, ◌==◌, Bool, true, false, refl, sym, ap, subst, ◌∙◌, arith, List, ◌∷◌, Some, None}
-use Rattle.gh_phase.specs.declared.view.RunPhase.TheVariants as run
-use Rattle.gh_coord.specs.declared.close.CloseStage.TheVariants as closing
-use Rattle.gh_coord.specs.declared.tell.TellStage.TheVariants as telling
+use Rattle.std.proofs.Common.{◌≡◌, ℕ, ◌+◌, ◌<◌, ◌==◌, Bool, true, false, refl, sym, ap, subst, ◌∙◌, arith, List, ◌∷◌, Some, None, eqb-true}
+use Rattle.gh_holds.proofs.Vocabulary.{acks_of, Arena, arena, Check, Close, CloseStage, Coordinating, CoordStage, Count, CountStage, CycleEnd, Done, Entry, Given, HasEnded, HasRead, Holds, HoldsAt, in_all, IsClosing, IsCounting, IsLed, IsOff, IsQuiet, IsSweeping, IsTold, KeepsIt, last_of, last_phase, Lead, Leads, Legal, ListsKnown, live_at, LoadAck, LoadWant, MarkOn, may_of, Op, Open, OpenStage, other, page_at, place_of, RunPhase, setup_for, State, Stop, StopAgain, Stopped, Sweep, SweepingAll, Tell, TellStage, those, Wanted, WasMarked, Watch, whole}
 use Rattle.gh_coord.specs.Closing as closes_by
 use Rattle.gh_coord.specs.Handshake as leading
 use Rattle.gh_coord.specs.Opening as opens_by
 use Rattle.gh_coord.specs.Telling as tells_by
-use Rattle.gh_sweep.specs.Shared.{in_all, live_at}
-use Rattle.gh_holds.specs.ActorsHold.{HasEnded, HasRead, Holds, HoldsAt, IsClosing, IsCounting, IsOff, IsQuiet, IsSweeping, IsTelling, IsTold, page_at}
+use Rattle.gh_holds.specs.ActorsHold.{IsTelling}
 use Rattle.gh_lists.specs.Handshake as handshake
-use Rattle.gh_marked.specs.HoldVocabulary.{CycleEnd, SweepingAll}
-use Rattle.gh_marked.proofs.Vocabulary.{acks_of, Arena, arena, Check, Close, CloseStage, Coordinating, CoordStage, Count, CountStage, Done, Entry, eqb-true, IsLed, KeepsIt, last_of, last_phase, Lead, Leads, Legal, LoadAck, LoadWant, MarkOn, may_of, Op, Open, OpenStage, place_of, RunPhase, State, Stop, StopAgain, Stopped, Sweep, Tell, TellStage, those, WasMarked, Watch}
 use Rattle.gh_holds.proofs.AllActors.Gone.{gone_rests}
-use Rattle.gh_marked.specs.Known.{ListsKnown}
 use Rattle.gh_marked.proofs.OneStep.Landing as landing
 use Rattle.gh_holds.proofs.AllActors.Others.{was_by_others}
 use Rattle.gh_holds.proofs.AllActors.Quieting as quieting
 use Rattle.gh_holds.proofs.AllActors.Quieting.{IsCalmStage}
 use Rattle.gh_holds.proofs.AllActors.SinceEnd.{has_ended_on}
 use Rattle.gh_holds.proofs.AllActors.Starts.{counted_on}
-use Rattle.gh_lists.specs.Starts.{whole}
 use Rattle.gh_holds.proofs.AllActors.Still.{IsStill, is_still}
 use Rattle.gh_holds.proofs.AllActors.StillHolds.{holds_still}
 use Rattle.gh_marked.proofs.OneStep.Sweepers as sweepers
 use Rattle.gh_holds.proofs.AllActors.Walking.{walks_last}
-use Rattle.gh_marked.proofs.OneStep.Wanted.{Wanted}
 use Rattle.gh_holds.proofs.AllActors.Was.{heap_refuses, RefusesRightly, still_refuses}
-use Rattle.gh_lists.specs.Seats.{other}
-use Rattle.gh_lists.specs.Lists.{Given, setup_for}
 
 -- while a cycle is opened the world is stopped
-open_stopped : (p : OpenStage) → opens_by.is_busy p ≡ true → leading.open_post p ≡ Stopped run.Off
+open_stopped : (p : OpenStage) → opens_by.is_busy p ≡ true → leading.open_post p ≡ Stopped RunPhase.Off
 open_stopped p busy = grind arith
 
 module _ (given : Given) (wanted : Wanted) (lists : ListsKnown (setup_for given))
@@ -50,7 +40,7 @@ module _ (given : Given) (wanted : Wanted) (lists : ListsKnown (setup_for given)
 
   -- The last cycle is swept, and each processor is gone.
 
-  phase_is : c.stage ≡ Done → last_phase es ≡ run.Finished
+  phase_is : c.stage ≡ Done → last_phase es ≡ RunPhase.Finished
   phase_is done =
       let leads : Leads keeps.shakes.lead ≡ Leads (leading.lead_of c) = sym keeps.shakes.leads ∙ ap place_of led in
       let same : keeps.shakes.lead ≡ leading.lead_of c = cc in
@@ -154,25 +144,25 @@ module _ (given : Given) (wanted : Wanted) (lists : ListsKnown (setup_for given)
   calm_at p is calm = subst IsCalmStage (sym is) calm
 
   told_now : (t : tells_by.Telling) → c.stage ≡ Tell t → (p : TellStage) → IsTelling (setup_for given) es c p → IsTelling (setup_for given) (e ∷ es) c p × RefusesRightly (setup_for given) e es
-  told_now t is telling.Ended h = absurd h
-  told_now t is telling.StoreTrigger h = told_then (calm_at (Tell t) is tt) h
-  told_now t is telling.StoreSwept h = told_then (calm_at (Tell t) is tt) h
-  told_now t is telling.StorePhase h = told_then (calm_at (Tell t) is tt) h
+  told_now t is TellStage.Ended h = absurd h
+  told_now t is TellStage.StoreTrigger h = told_then (calm_at (Tell t) is tt) h
+  told_now t is TellStage.StoreSwept h = told_then (calm_at (Tell t) is tt) h
+  told_now t is TellStage.StorePhase h = told_then (calm_at (Tell t) is tt) h
 
   closing_now : (y : closes_by.Closing) → c.stage ≡ Close y → (p : CloseStage) → y.stage ≡ p → IsClosing (setup_for given) es c p → Now (Close y)
-  closing_now y is closing.Ended at h = absurd h
-  closing_now y is closing.LoadBank at h = stopped_now run.Mark (stopped_at (Close y) run.Mark is (ap leading.close_post at)) (Close y) (subst (IsClosing (setup_for given) es c) (sym at) h)
-  closing_now y is _ at h = stopped_now run.Mark (stopped_at (Close y) run.Mark is (ap leading.close_post at)) (Close y) (subst (IsClosing (setup_for given) es c) (sym at) h)
+  closing_now y is CloseStage.Ended at h = absurd h
+  closing_now y is CloseStage.LoadBank at h = stopped_now RunPhase.Mark (stopped_at (Close y) RunPhase.Mark is (ap leading.close_post at)) (Close y) (subst (IsClosing (setup_for given) es c) (sym at) h)
+  closing_now y is _ at h = stopped_now RunPhase.Mark (stopped_at (Close y) RunPhase.Mark is (ap leading.close_post at)) (Close y) (subst (IsClosing (setup_for given) es c) (sym at) h)
 
   now_at : (p : CoordStage) → c.stage ≡ p → HoldsAt (setup_for given) es c p → Now p
   now_at (LoadAck i) is q = quiet_now (calm_at (LoadAck i) is tt) q
   now_at LoadWant is q = quiet_now (calm_at LoadWant is tt) q
   now_at (Stop st) is q = quiet_now (calm_at (Stop st) is tt) q
-  now_at (Open o) is h = stopped_now run.Off (stopped_at (Open o) run.Off is (open_stopped o.stage (open_busy o is))) (Open o) h
+  now_at (Open o) is h = stopped_now RunPhase.Off (stopped_at (Open o) RunPhase.Off is (open_stopped o.stage (open_busy o is))) (Open o) h
   now_at (Watch w) is h = (tt, marks_now (subst leading.Marks (sym is) tt))
   now_at (StopAgain st) is h = (tt, marks_now (subst leading.Marks (sym is) tt))
-  now_at (Check w) is h = stopped_now run.Mark (stopped_at (Check w) run.Mark is refl) (Check w) h
-  now_at MarkOn is h = stopped_now run.Mark (stopped_at MarkOn run.Mark is refl) MarkOn h
+  now_at (Check w) is h = stopped_now RunPhase.Mark (stopped_at (Check w) RunPhase.Mark is refl) (Check w) h
+  now_at MarkOn is h = stopped_now RunPhase.Mark (stopped_at MarkOn RunPhase.Mark is refl) MarkOn h
   now_at (Close y) is h = closing_now y is y.stage refl h
   now_at (Sweep w) is h = sweeping_then (calm_at (Sweep w) is tt) w h
   now_at (Count y) is h = counting_then (calm_at (Count y) is tt) y.stage h

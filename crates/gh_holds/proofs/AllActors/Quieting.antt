@@ -1,27 +1,15 @@
 -- One entry more of a processor while no cycle is under way: what is swept stays so, and nobody marks.
 use Rattle.std.proofs.Common.{◌≡◌, ◌≢◌, ℕ, ◌<◌, ◌==◌, ◌⊎◌, inl, inr, Bool, true, false, cond, refl, sym, ap, subst, ◌∙◌, Some, arith, List, ◌∷◌}
-use Rattle.gh_base.specs.declared.cell.Cell.TheVariants as cell
-use Rattle.gh_coord.specs.declared.tell.TellStage.TheVariants as telling
+use Rattle.gh_holds.proofs.Vocabulary.{Arena, arena, Ask, asks, Cell, cell_of, Coordinating, CoordStage, Count, Done, END, Entry, FindsNoMarking, Given, Heap, is_busy_at, is_stop, IsLed, IsOff, IsSound, KeepsIt, last_of, last_phase, Lead, Leads, Legal, ListsKnown, LoadAck, LoadWant, MarksNothing, nat_tests, Op, place_of, Processor, processor_at, processor_kind, run_word, RunPhase, setup_for, started, state_stays, Stop, stop_word, StopStage, Sweep, Task, Tell, TellsStacks, TellStage, those, Wanted, Words}
 use Rattle.gh_coord.specs.Handshake as leading
-use Rattle.gh_phase.specs.declared.view.RunPhase.TheVariants as run
-use Rattle.gh_phase.specs.Handshake.{is_stop, run_word}
-use Rattle.gh_mutator.specs.declared.task.Task.TheVariants as task
-use Rattle.gh_mutator_writes.specs.Calm.{FindsNoMarking}
-use Rattle.gh_marked.proofs.Vocabulary.{Arena, arena, Ask, asks, cell_of, Coordinating, CoordStage, Count, Done, END, Entry, Heap, is_busy_at, IsLed, IsSound, KeepsIt, last_of, last_phase, Lead, Leads, Legal, LoadAck, LoadWant, MarksNothing, nat_tests, Op, place_of, Processor, processor_at, processor_kind, started, Stop, stop_word, StopStage, Sweep, Tell, TellStage, those, Words}
 use Rattle.gh_marked.specs.Endings.{is_its_end}
-use Rattle.gh_holds.specs.ActorsHold.{IsOff}
-use Rattle.gh_marked.specs.Known.{ListsKnown}
 use Rattle.gh_marked.proofs.OneStep.Landing as landing
 use Rattle.gh_marked.proofs.OneStep.OwnSide as own_side
 use Rattle.gh_marked.proofs.OneStep.Ranging.{begins_so}
-use Rattle.gh_lists.specs.Resting.{state_stays}
 use Rattle.gh_marked.specs.StackWords as stacks
-use Rattle.gh_marked.specs.StackWords.{TellsStacks}
 use Rattle.gh_marked.proofs.OneStep.Stepping as stepping
 use Rattle.gh_marked.proofs.OneStep.Sweepers as sweepers
-use Rattle.gh_marked.proofs.OneStep.Wanted.{Wanted}
 use Rattle.gh_lists.specs.Phase.{is_last}
-use Rattle.gh_lists.specs.Lists.{Given, setup_for}
 
 -- no cycle is under way, and the world may run
 abbrev pub IsCalmStage : CoordStage → Type 0
@@ -34,21 +22,21 @@ IsCalmStage (Tell t) = Unit {0}
 IsCalmStage Done = Unit {0}
 IsCalmStage _ = ⊥
 
-stop_off : (p : StopStage) → last_of (leading.stop_post run.Off p) ≡ run.Off
+stop_off : (p : StopStage) → last_of (leading.stop_post RunPhase.Off p) ≡ RunPhase.Off
 stop_off p = grind arith
 
-told_off : (last : Bool) → leading.told_phase last ≢ run.Mark
+told_off : (last : Bool) → leading.told_phase last ≢ RunPhase.Mark
 told_off true is = cc
 told_off false is = cc
 
-tell_off : (last : Bool) (p : TellStage) → last_of (leading.tell_post last p) ≢ run.Mark
-tell_off last telling.Ended is = told_off last is
+tell_off : (last : Bool) (p : TellStage) → last_of (leading.tell_post last p) ≢ RunPhase.Mark
+tell_off last TellStage.Ended is = told_off last is
 tell_off last _ is = absurd cc
 
-not_marking : (p : CoordStage) → IsCalmStage p → last_of (leading.post_at p) ≢ run.Mark
+not_marking : (p : CoordStage) → IsCalmStage p → last_of (leading.post_at p) ≢ RunPhase.Mark
 not_marking (LoadAck i) calm is = absurd (cc)
 not_marking LoadWant calm is = absurd (cc)
-not_marking (Stop st) calm is = absurd (let no : run.Off ≡ run.Mark = sym (stop_off st.stage) ∙ is in cc)
+not_marking (Stop st) calm is = absurd (let no : RunPhase.Off ≡ RunPhase.Mark = sym (stop_off st.stage) ∙ is in cc)
 not_marking (Sweep w) calm is = absurd (cc)
 not_marking (Count x) calm is = absurd (cc)
 not_marking (Tell t) calm is = tell_off t.is_last t.stage is
@@ -111,13 +99,13 @@ module _ (given : Given) (wanted : Wanted) (lists : ListsKnown (setup_for given)
   lead_is : keeps.shakes.lead ≡ leading.lead_of c
   lead_is = let both : Leads keeps.shakes.lead ≡ Leads (leading.lead_of c) = sym keeps.shakes.leads ∙ ap place_of led in cc
 
-  last_is : last_phase es ≢ run.Mark
+  last_is : last_phase es ≢ RunPhase.Mark
   last_is x = not_marking c.stage calm_stage (sym (keeps.shakes.led.last_is ∙ ap (λ (y : Lead). last_of y.post) lead_is) ∙ x)
 
   finds : FindsNoMarking (asks given.layout now) found
-  finds loads marks = last_is (is_last wanted.read.phase (is_stop keeps.shakes.lead.post) keeps.shakes.lead.stops (last_phase es) run.Mark found word marks) where
+  finds loads marks = last_is (is_last wanted.read.phase (is_stop keeps.shakes.lead.post) keeps.shakes.lead.stops (last_phase es) RunPhase.Mark found word marks) where
     word : found ≡ cond (is_stop keeps.shakes.lead.post) (stop_word keeps.shakes.lead.stops) (run_word keeps.shakes.lead.stops (last_phase es))
-    word = ap (λ (x : Ask). h.words (cell_of x)) loads ∙ (ap (λ (w : Words). w cell.Phase) q.has.of_list.words_are ∙ keeps.shakes.led.phase_is)
+    word = ap (λ (x : Ask). h.words (cell_of x)) loads ∙ (ap (λ (w : Words). w Cell.Phase) q.has.of_list.words_are ∙ keeps.shakes.led.phase_is)
 
   calm_then : MarksNothing then
   calm_then = lists.known.calm.lasts given.layout given.shapes now found (own_side.sound_now given lists.good lists.limits lists.known wanted e es legal lt q.has land tells).place (own_side.busy given lists.good lists.limits lists.known wanted e es legal lt q.has land tells) calm_now finds
@@ -130,17 +118,17 @@ module _ (given : Given) (wanted : Wanted) (lists : ListsKnown (setup_for given)
 
   -- Stacks and buffers.
 
-  word_stays : (g : ℕ) → (now.task ≡ task.End g → ⊥) → t.words (cell.Scanned g) ≡ h.words (cell.Scanned g)
-  word_stays g other = ap (λ (w : Words). w (cell.Scanned g)) land.words_are ∙ stacks.calm_word given.shapes given.layout lists.known e.begun m sound idle calm h.words g other
+  word_stays : (g : ℕ) → (now.task ≡ Task.End g → ⊥) → t.words (Cell.Scanned g) ≡ h.words (Cell.Scanned g)
+  word_stays g other = ap (λ (w : Words). w (Cell.Scanned g)) land.words_are ∙ stacks.calm_word given.shapes given.layout lists.known e.begun m sound idle calm h.words g other
 
-  pub old : (g : ℕ) → (t.words (cell.Scanned g) < cycle) ⊎ (t.words (cell.Scanned g) ≡ END)
+  pub old : (g : ℕ) → (t.words (Cell.Scanned g) < cycle) ⊎ (t.words (Cell.Scanned g) ≡ END)
   old g = elim (is_its_end now.task g) [
     | inl x ↦ inr (own_side.word_ends given lists.good lists.limits lists.known wanted e es legal lt q.has land tells g x)
     | inr other ↦ subst (λ (n : ℕ). (n < cycle) ⊎ (n ≡ END)) (sym (word_stays g other)) (q.nobody.stacks g)
   ]
 
-  pub buffers : (b : ℕ) → t.words (cell.Buffer b) ≡ 0
-  buffers b = ap (λ (w : Words). w (cell.Buffer b)) land.words_are ∙ (lists.known.calm.leaves given.layout now h.words (cell.Buffer b) calm_now (λ w. w) ∙ q.nobody.buffers b)
+  pub buffers : (b : ℕ) → t.words (Cell.Buffer b) ≡ 0
+  buffers b = ap (λ (w : Words). w (Cell.Buffer b)) land.words_are ∙ (lists.known.calm.leaves given.layout now h.words (Cell.Buffer b) calm_now (λ w. w) ∙ q.nobody.buffers b)
 
   abbrev pub off_then : IsOff (setup_for given) (e ∷ es) cycle page
   off_then = record {

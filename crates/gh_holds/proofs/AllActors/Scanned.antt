@@ -1,28 +1,17 @@
 -- Few words are scanned: in each cycle no more than there are, since the objects that are black share none; and while no cycle is marked none.
 use Rattle.std.proofs.Common.{◌≡◌, ◌⊎◌, inl, inr, ℕ, suc, ◌+◌, ◌-◌, ◌*◌, ◌<◌, ◌≤◌, Bool, true, false, cond, ltb, refl, sym, ap, subst, ◌∙◌, arith, List, [], ◌∷◌}
 use Rattle.std.proofs.Math.Nat.{mul-le-mul_right}
-use Rattle.gh_base.specs.declared.cell.Cell.TheVariants as cell
+use Rattle.gh_holds.proofs.Vocabulary.{Actor, all_of, alloc_words, Arena, arena, Black, Cell, Colour, Coordinating, done_by, Entry, FewAreScanned, Good, Heap, HeapIsApart, InSlot, IsInMarking, IsLed, IsSlotOf, Layout, led_then, Legal, ListsKnown, Marking, most_scanned, nat_tests, Op, Placed, row_bit, scanned_by, scanned_in, Setup, size_for, SpanHead, those, view, WasMarked, Words}
 use Rattle.gh_coord.specs.Handshake as leading
 use Rattle.gh_coord.specs.Listing as coord
-use Rattle.gh_heap.specs.Laws.{HeapIsApart}
-use Rattle.gh_heap.specs.Objects.{InSlot, size_for}
-use Rattle.gh_heap.specs.Spans.{IsSlotOf}
-use Rattle.gh_marks.specs.Colours.{Black, Colour}
 use Rattle.gh_worker.specs.Handshake as working
 use Rattle.gh_worker.specs.Works.{words_done}
-use Rattle.gh_lists.specs.declared.handshake.Actor.TheVariants as actor
 use Rattle.gh_lists.specs.Counts.{CountsPlainly, stored_in, stores_cell}
-use Rattle.gh_marked.specs.Scanned.{done_by, FewAreScanned, most_scanned, scanned_by, scanned_in}
-use Rattle.gh_marked.proofs.Vocabulary.{Actor, alloc_words, Arena, arena, Coordinating, Entry, Good, Heap, IsLed, Layout, Legal, Marking, nat_tests, Op, Placed, row_bit, SpanHead, those, view, WasMarked, Words, WorkerStage}
-use Rattle.gh_lists.specs.Going.{led_then}
-use Rattle.gh_marked.specs.Known.{ListsKnown}
+use Rattle.gh_marked.proofs.Vocabulary.{WorkerStage}
 use Rattle.gh_holds.proofs.AllActors.Marks.{objects}
-use Rattle.gh_lists.specs.Starts.{whole as all_of}
-use Rattle.gh_marked.specs.Marked.{IsInMarking}
 use Rattle.gh_lists.specs.Leaving.{ends_marking, marks_or_not}
 use Rattle.gh_lists.specs.Steps as seats
 use Rattle.gh_marked.specs.Weights.{ArePacked, black_words, counted, counted_most, stored_rises}
-use Rattle.gh_lists.specs.Handshake.{Setup}
 
 -- a worker that is done with something takes, scans or shades
 done_or_marking : (l : Layout) (p : WorkerStage) (found : ℕ) → (words_done l p found ≡ 0) ⊎ working.IsMarking p
@@ -97,22 +86,22 @@ module _ (setup : Setup) (lists : ListsKnown setup) where
   Lawful = Legal (those setup)
 
   abbrev Few : List (Entry Op) → Type 0
-  Few es = scanned_in setup es ≤ stored_in cell.Gen es * most_scanned setup.layout
+  Few es = scanned_in setup es ≤ stored_in Cell.Gen es * most_scanned setup.layout
 
   module _ (e : Entry Op) (es : List (Entry Op)) where
     -- who is done with nothing
     none_more : scanned_by setup e es ≡ 0 → Few es → Few (e ∷ es)
-    none_more none few = let ended = mul-le-mul_right (most_scanned setup.layout) (stored_rises cell.Gen e.ask (stored_in cell.Gen es)) in omega (arith, none, few, ended)
+    none_more none few = let ended = mul-le-mul_right (most_scanned setup.layout) (stored_rises Cell.Gen e.ask (stored_in Cell.Gen es)) in omega (arith, none, few, ended)
 
     done_is : (m : Actor) → seats.at setup es e.actor ≡ m → scanned_by setup e es ≡ done_by setup.layout m e.found
     done_is m is = ap (λ (x : Actor). done_by setup.layout x e.found) is
 
     -- the step that ends a cycle's marking
-    cycle_more : (lead : Coordinating) → scanned_by setup e es ≡ 0 → stores_cell cell.Gen e.ask ≡ true → IsInMarking z setup.pacing setup.may es lead → Few (e ∷ es)
+    cycle_more : (lead : Coordinating) → scanned_by setup e es ≡ 0 → stores_cell Cell.Gen e.ask ≡ true → IsInMarking z setup.pacing setup.may es lead → Few (e ∷ es)
     cycle_more lead none stored m =
         let before = m.scanned in
         let most = few_counted es lead m in
-        let one : stored_in cell.Gen (e ∷ es) ≡ suc (stored_in cell.Gen es) = ap (λ (b : Bool). cond b (suc (stored_in cell.Gen es)) (stored_in cell.Gen es)) stored in
+        let one : stored_in Cell.Gen (e ∷ es) ≡ suc (stored_in Cell.Gen es) = ap (λ (b : Bool). cond b (suc (stored_in Cell.Gen es)) (stored_in Cell.Gen es)) stored in
         let ended = ap (λ (n : ℕ). n * most_scanned setup.layout) one in
         omega (arith, before, most, none, ended)
 
@@ -121,22 +110,22 @@ module _ (setup : Setup) (lists : ListsKnown setup) where
   rests [] legal was c led off = omega arith
   rests (e ∷ es) legal was c led off = by (λ d led_was still. rests es legal.0 (λ start x of. was start x (inr of)) d led_was still) (seats.step setup e es lists.known.writes legal (lists.keeps es legal.0)) where
     by : ((d : Coordinating) → IsLed setup es d → (leading.Marks d.stage → ⊥) → Few es) → seats.Step setup e es → Few (e ∷ es)
-    by before (seats.by_processor m x stays) = none_more e es (done_is e es (actor.Runs m) x.is) (before c (sym stays ∙ led) off)
-    by before (seats.by_worker w x stays) = none_more e es (done_is e es (actor.Marks w) x.is ∙ none) (before c (sym stays ∙ led) off) where
+    by before (seats.by_processor m x stays) = none_more e es (done_is e es (Actor.Runs m) x.is) (before c (sym stays ∙ led) off)
+    by before (seats.by_worker w x stays) = none_more e es (done_is e es (Actor.Marks w) x.is ∙ none) (before c (sym stays ∙ led) off) where
       none : words_done setup.layout w.stage e.found ≡ 0
       none = elim (done_or_marking setup.layout w.stage e.found) [ inl is ↦ is | inr marking ↦ absurd (off ((lists.keeps es legal.0).marking c e.actor w (sym stays ∙ led) x.seat x.is marking)) ]
     by before (seats.by_lead lead x) = go (marks_or_not lead.stage) where
       none : scanned_by setup e es ≡ 0
-      none = done_is e es (actor.Leads lead) (ap (seats.at setup es) x.seat ∙ x.is)
+      none = done_is e es (Actor.Leads lead) (ap (seats.at setup es) x.seat ∙ x.is)
 
       to : coord.goes setup.layout lead e.found ≡ c
-      to = let both : actor.Leads (coord.goes setup.layout lead e.found) ≡ actor.Leads c = sym x.then ∙ led in cc
+      to = let both : Actor.Leads (coord.goes setup.layout lead e.found) ≡ Actor.Leads c = sym x.then ∙ led in cc
 
       go : leading.Marks lead.stage ⊎ (leading.Marks lead.stage → ⊥) → Few (e ∷ es)
       go (inr still) = none_more e es none (before lead x.is still)
       go (inl on) = elim (ends_marking setup.layout lead e.found on) [
         | inl goes ↦ absurd (off (subst (λ (y : Coordinating). leading.Marks y.stage) to goes))
-        | inr stored ↦ cycle_more e es lead none (ap (stores_cell cell.Gen) x.asked ∙ stored) (was es lead (inr (all_of es)) x.is on).marking
+        | inr stored ↦ cycle_more e es lead none (ap (stores_cell Cell.Gen) x.asked ∙ stored) (was es lead (inr (all_of es)) x.is on).marking
       ]
 
   pub few_scanned : (es : List (Entry Op)) → Lawful es → WasMarked z setup.pacing setup.may es → FewAreScanned setup es

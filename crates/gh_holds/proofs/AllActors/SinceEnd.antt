@@ -1,24 +1,10 @@
 -- What a move of the one state does to which objects stand: one that comes to stand has a name that was not made before, and one that stands where its bit is still set stands there by the same name. And what that says of the cycle that ended last.
-use Rattle.std.proofs.Common.{◌≡◌, ℕ, ◌+◌, ◌*◌, ◌/◌, ◌%◌, ◌^◌, ◌<◌, ◌⊎◌, min, true, cond, eqb, refl, sym, ap, subst, ◌∙◌, arith, inl, inr, List, ◌∷◌}
-use Rattle.std.specs.Prelude.{bit_and}
-use Rattle.std.proofs.lemmas.Bool.Decides.{eqb_tells}
-use Rattle.std.proofs.lemmas.Nat.Bits.{bit_at_and, bit_at-lt}
-use Rattle.gh_base.specs.declared.cell.Cell.TheVariants as cell
-use Rattle.gh_base.specs.Rows.{with_word}
+use Rattle.std.proofs.Common.{◌≡◌, ℕ, ◌+◌, ◌*◌, ◌/◌, ◌%◌, ◌^◌, ◌<◌, ◌⊎◌, min, true, cond, eqb, refl, sym, ap, subst, ◌∙◌, arith, inl, inr, List, ◌∷◌, bit_and}
+use Rattle.gh_holds.proofs.Vocabulary.{alloc_at, alloc_words, Arena, Ask, birth_words, bit_at, bit_at-lt, bit_at_and, Cell, Coordinating, CycleEnd, effect, EndedSo, Entry, eqb_tells, Ever, ever, Good, HasEnded, Heap, IsAsItEnded, IsInCycle, IsLed, IsMade, IsNewThere, IsPlacedAt, Known, Load, marks_at, Name, next_name, Op, Row, row_bit, same_birth_same_name, Setup, State, StateGood, view, with_word, Words, words}
 use Rattle.gh_heap.specs.Moves as heap
-use Rattle.gh_model.specs.Ever.{next_name}
-use Rattle.gh_state.specs.Cycles.{IsAsItEnded}
 use Rattle.gh_state.specs.Moves as state
 use Rattle.gh_sweep.specs.Moves as sweep
-use Rattle.gh_sweep.specs.Shared.{alloc_at, CycleEnd, marks_at}
-use Rattle.gh_holds.specs.ActorsHold.{EndedSo, HasEnded, IsNewThere}
-use Rattle.gh_marked.specs.State.{IsInCycle}
-use Rattle.gh_marked.specs.HoldVocabulary.{alloc_words, Arena, birth_words, Coordinating, Entry, Ever, ever, Good, Heap, IsLed, IsMade, IsPlacedAt, Name, Op, row_bit, State, StateGood, view, Words, words}
-use Rattle.gh_marked.proofs.Vocabulary.{Ask, bit_at, effect, Load, Row}
-use Rattle.gh_marked.specs.Known.{Known}
-use Rattle.gh_lists.specs.Names.{same_birth_same_name}
 use Rattle.gh_holds.proofs.AllActors.Stood.{move_stays}
-use Rattle.gh_lists.specs.Handshake.{Setup}
 
 -- an object stands there that was not made by then
 record IsNew (made : ℕ → ℕ) (v : Words) (x : ℕ) : Type 0 where
@@ -30,7 +16,7 @@ record IsNew (made : ℕ → ℕ) (v : Words) (x : ℕ) : Type 0 where
 -- What stands then stood before, or is new; and a birth word stays where a bit was set.
 record StandsSo (made : ℕ → ℕ) (w v : Words) : Type 0 where
   pub bits : (x : ℕ) → row_bit (alloc_words v) x ≡ 1 → (row_bit (alloc_words w) x ≡ 1) ⊎ IsNew made v x
-  pub births : (x : ℕ) → row_bit (alloc_words w) x ≡ 1 → v (cell.Birth x) ≡ w (cell.Birth x)
+  pub births : (x : ℕ) → row_bit (alloc_words w) x ≡ 1 → v (Cell.Birth x) ≡ w (Cell.Birth x)
 
 -- one more is made
 made_more : (f : ℕ → ℕ) (g : ℕ) (n : Name) → IsMade f n → n.k < cond (eqb n.g g) (f g + 1) (f n.g)
@@ -40,7 +26,7 @@ made_more f g n made = elim (eqb_tells n.g g) [
 ]
 
 module _ (known : Known) where
-  by_quiet : (ask : Ask) → heap.IsQuiet ask → (w : Words) (i : ℕ) → effect w ask (cell.Alloc i) ≡ w (cell.Alloc i)
+  by_quiet : (ask : Ask) → heap.IsQuiet ask → (w : Words) (i : ℕ) → effect w ask (Cell.Alloc i) ≡ w (Cell.Alloc i)
   by_quiet ask is w i = grind arith
 
   same_bit : (p q : Row) → ((i : ℕ) → p i ≡ q i) → (x : ℕ) → row_bit p x ≡ row_bit q x
@@ -108,7 +94,7 @@ module _ (known : Known) where
     by_sweep : (m : sweep.Move) → state.IsOfSweep m → StandsSo made s.heap.words (state.moved z a s (state.Sweep m)).heap.words
     by_sweep (sweep.Quiet (Load c)) of = same s.heap.words refl refl
     by_sweep (sweep.Starts p h) of = same _ refl refl
-    by_sweep (sweep.Cuts p h i) of = record { bits = λ x set. inl (cut_bits s.heap.words (16 * p + i) (s.heap.words (cell.Mark (16 * p + i))) (state.moved z a s (state.Sweep (sweep.Cuts p h i))).heap.words refl x set); births = λ x set. refl }
+    by_sweep (sweep.Cuts p h i) of = record { bits = λ x set. inl (cut_bits s.heap.words (16 * p + i) (s.heap.words (Cell.Mark (16 * p + i))) (state.moved z a s (state.Sweep (sweep.Cuts p h i))).heap.words refl x set); births = λ x set. refl }
     by_sweep (sweep.Clears p h i) of = same _ refl refl
     by_sweep sweep.TellsTally of = same _ refl refl
     by_sweep sweep.TellsLive of = same _ refl refl

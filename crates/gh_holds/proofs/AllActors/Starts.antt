@@ -1,11 +1,6 @@
 -- What was said of a list's starts is said of them still behind one entry more; and what has to be said of the entry.
 use Rattle.std.proofs.Common.{◌≡◌, ℕ, sym, ap, subst, ◌∙◌, inl, inr, List, ◌∷◌, arith}
-use Rattle.gh_holds.specs.Objects.{AllWereCounted, EndsAllMarked, EndsMarked, FreesTheUnreached}
-use Rattle.gh_lists.specs.Lists.{BeginsCycle, ever, IsEnding, IsLed, IsStepIn, IsTelling, SweepsCycle, words}
-use Rattle.gh_marked.specs.HoldVocabulary.{Coordinating, Entry, IsMade, Name, Op, Reach}
-use Rattle.gh_lists.specs.Marking.{IsBeginning, IsStartOf}
-use Rattle.gh_lists.specs.Processors.{IsPlacedAt}
-use Rattle.gh_lists.specs.Handshake.{Setup}
+use Rattle.gh_holds.proofs.Vocabulary.{AllWereCounted, BeginsCycle, Coordinating, EndsAllMarked, EndsMarked, Entry, ever, FreesTheUnreached, IsBeginning, IsEnding, IsLed, IsMade, IsPlacedAt, IsStartOf, IsStepIn, IsTelling, Name, Op, Reach, Setup, SweepsCycle, words}
 
 module _ (setup : Setup) where
   abbrev pub Frees : List (Entry Op) → List (Entry Op) → Type 0

@@ -1,23 +1,8 @@
 -- An entry that changes nothing: no word, no processor, no sweep that anyone runs, and nothing of the heap that never frees. So is each entry of another than the coordinator in a stopped world. What holds stays as it is.
 use Rattle.std.proofs.Common.{◌≡◌, inl, inr, ℕ, ◌+◌, ◌<◌, ◌≤◌, ◌==◌, false, refl, sym, ap, subst, ◌∙◌, arith, List, ◌∷◌, None}
-use Rattle.std.proofs.lemmas.Bool.Decides.{nat_tests}
-use Rattle.gh_base.specs.Lists.{by}
-use Rattle.gh_coord.specs.declared.count.CountStage.{CountStage}
+use Rattle.gh_holds.proofs.Vocabulary.{acks_of, Actor, actors_after, alloc_words, answers_of, answers_stay, Arena, arena, by, Coordinating, CountStage, ended_in, EndedSo, Entry, Ever, ever, ever_stays, given_of, given_stay, HasEnded, HasState, Heap, IsCounting, IsHeapOf, IsInCycle, IsInSweep, IsLed, IsMade, IsNewThere, IsPlacedAt, IsQuiet, IsReady, IsSweeping, IsTold, Known, Legal, ListsKnown, MarksNothing, nat_tests, NobodyMarks, Op, opening_words, own_stay, Processor, processor_at, row_bit, RunPhase, Setup, State, state_stays, Stopped, sweep_of, SweepingAll, those, uncounted, Words, words, Working, works}
 use Rattle.gh_coord.specs.Handshake as leading
-use Rattle.gh_phase.specs.declared.view.RunPhase.{RunPhase}
-use Rattle.gh_phase.specs.Handshake.{Stopped}
-use Rattle.gh_worker.specs.Listing.{goes, sweep_at, Working}
-use Rattle.gh_lists.specs.declared.handshake.Actor.{Actor}
-use Rattle.gh_lists.specs.declared.handshake.Actor.TheVariants as actor
-use Rattle.gh_holds.specs.ActorsHold.{EndedSo, HasEnded, IsCounting, IsNewThere, IsQuiet, IsReady, IsSweeping, IsTold, NobodyMarks}
-use Rattle.gh_marked.specs.State.{HasState, IsHeapOf, IsInCycle, processor_at}
-use Rattle.gh_marked.specs.HeapBytes.{uncounted}
-use Rattle.gh_marked.specs.HoldVocabulary.{acks_of, actors_after, alloc_words, answers_of, arena, Arena, Coordinating, ended_in, Entry, Ever, ever, given_of, Heap, IsLed, IsMade, IsPlacedAt, Legal, MarksNothing, Op, opening_words, Processor, row_bit, State, SweepingAll, Words, words}
-use Rattle.gh_lists.specs.Handshake.{those, Setup}
-use Rattle.gh_marked.specs.Sweepers.{IsInSweep, sweep_of}
-use Rattle.gh_marked.specs.Known.{Known, ListsKnown}
-use Rattle.gh_lists.specs.Resting.{answers_stay, ever_stays, given_stay, own_stay, state_stays}
-use Rattle.gh_lists.specs.Seats.{works}
+use Rattle.gh_worker.specs.Listing.{goes, sweep_at}
 
 module _ (setup : Setup) (e : Entry Op) (es : List (Entry Op)) where
   abbrev z : Arena
@@ -47,13 +32,13 @@ module _ (setup : Setup) (e : Entry Op) (es : List (Entry Op)) where
 
   -- where the world is stopped a worker waits at the stop, before its step and behind it, and sweeps nothing
   module _ (lists : ListsKnown setup) (legal : Legal (those setup) (e ∷ es)) (c : Coordinating) (phase : RunPhase) (led : IsLed setup es c) (post : leading.post_at c.stage ≡ Stopped phase) (among : e.actor < acks_of setup.layout) where
-    sweeps_none : (xs : List (Entry Op)) → Legal (those setup) xs → IsLed setup xs c → (w : Working) → at xs e.actor ≡ actor.Marks w → sweep_of (at xs e.actor) ≡ None
+    sweeps_none : (xs : List (Entry Op)) → Legal (those setup) xs → IsLed setup xs c → (w : Working) → at xs e.actor ≡ Actor.Marks w → sweep_of (at xs e.actor) ≡ None
     sweeps_none xs lawful led_there w is = ap sweep_of is ∙ ap sweep_at ((lists.keeps xs lawful).workers_wait c phase e.actor w led_there post among is).is_at
 
     led_then : IsLed setup (e ∷ es) c
     led_then = grind (arith, nat_tests)
 
-    pub worker_sweeps_none : (w : Working) → at es e.actor ≡ actor.Marks w → sweep_of (at (e ∷ es) e.actor) ≡ sweep_of (at es e.actor)
+    pub worker_sweeps_none : (w : Working) → at es e.actor ≡ Actor.Marks w → sweep_of (at (e ∷ es) e.actor) ≡ sweep_of (at es e.actor)
     worker_sweeps_none w is = sweeps_none (e ∷ es) legal led_then (goes setup.layout w e.found) (works setup e es w is) ∙ sym (sweeps_none es legal.0 led w is)
 
   -- a step of another than a processor that changes no word

@@ -1,19 +1,14 @@
 -- One entry more, outside of the marking of a cycle: by a processor, by a worker and by the coordinator, what holds then. And where a cycle begins.
 use Rattle.std.proofs.Common.{◌≡◌, ℕ, ◌<◌, ◌≤◌, Bool, List, [], ◌∷◌}
+use Rattle.gh_holds.proofs.Vocabulary.{acks_of, Actor, actors_after, Arena, arena, Coordinating, Entry, Given, Holds, IsBeginning, IsLed, Legal, ListsKnown, may_of, MayBegin, Op, Processor, setup_for, StepsByMoves, those, Wanted, WasMarked}
 use Rattle.gh_coord.specs.Listing as coord
 use Rattle.gh_worker.specs.Listing as worker
-use Rattle.gh_lists.specs.declared.handshake.Actor.TheVariants as actor
-use Rattle.gh_marked.proofs.Vocabulary.{acks_of, Actor, actors_after, Arena, arena, Coordinating, Entry, IsBeginning, IsLed, Legal, may_of, MayBegin, Op, StepsByMoves, Processor, those, WasMarked}
 use Rattle.gh_holds.proofs.AllActors.Begins as begins_by
 use Rattle.gh_holds.proofs.AllActors.BesideThen as marked
-use Rattle.gh_marked.specs.Known.{ListsKnown}
 use Rattle.gh_holds.proofs.AllActors.LeadingSteps as leads_by
 use Rattle.gh_holds.proofs.AllActors.Opening as opening
 use Rattle.gh_holds.proofs.AllActors.Processing as processing
-use Rattle.gh_marked.proofs.OneStep.Wanted.{Wanted}
 use Rattle.gh_holds.proofs.AllActors.Workers as workers
-use Rattle.gh_lists.specs.Lists.{Given, setup_for}
-use Rattle.gh_holds.specs.ActorsHold.{Holds}
 
 module _ (given : Given) (wanted : Wanted) (lists : ListsKnown (setup_for given)) where
   abbrev pub may : ℕ → List (Entry Op) → Op → Bool
@@ -43,10 +38,10 @@ module _ (given : Given) (wanted : Wanted) (lists : ListsKnown (setup_for given)
   opens c led = opening.opens (setup_for given) lists.known c led
 
   module _ (e : Entry Op) (es : List (Entry Op)) (legal : Lawful (e ∷ es)) (was : Was es) where
-    pub by_processor : (c : Coordinating) (m : Processor) → Led es c → e.actor < given.layout.procs → at es e.actor ≡ actor.Runs m → H es c → H (e ∷ es) c
+    pub by_processor : (c : Coordinating) (m : Processor) → Led es c → e.actor < given.layout.procs → at es e.actor ≡ Actor.Runs m → H es c → H (e ∷ es) c
     by_processor c m led lt is h = processing.by_processor given wanted lists e es legal was c led lt h
 
-    pub by_worker : (c : Coordinating) (w : worker.Working) → Led es c → given.layout.procs ≤ e.actor → e.actor < acks_of given.layout → at es e.actor ≡ actor.Marks w → H es c → H (e ∷ es) c
+    pub by_worker : (c : Coordinating) (w : worker.Working) → Led es c → given.layout.procs ≤ e.actor → e.actor < acks_of given.layout → at es e.actor ≡ Actor.Marks w → H es c → H (e ∷ es) c
     by_worker c w led ge lt is h = workers.holds_on (setup_for given) lists e es legal c led lt w ge is h
 
     pub by_lead : (c : Coordinating) → Led es c → e.actor ≡ acks_of given.layout → Led (e ∷ es) (coord.goes given.layout c e.found) → H es c → H (e ∷ es) (coord.goes given.layout c e.found)

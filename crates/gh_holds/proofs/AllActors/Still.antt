@@ -1,25 +1,13 @@
 -- One entry more of a processor or a worker where the world is stopped: it leaves everything as it was.
 use Rattle.std.proofs.Common.{◌≡◌, ℕ, ◌<◌, ◌≤◌, ◌==◌, Bool, true, false, cond, ltb, refl, sym, ap, subst, ◌∙◌, arith, inl, inr, List, ◌∷◌, ◌++◌, map, Option, None, Some, eq-eqb}
-use Rattle.gh_base.specs.declared.cell.Cell.TheVariants as cell
-use Rattle.gh_base.specs.Lists.{Begins}
-use Rattle.gh_base.specs.Orders.{before_step, left_at}
+use Rattle.gh_holds.proofs.Vocabulary.{acks_of, Act, Actor, actors, actors_after, acts, Answer, answered, answered_by, AnsweredDeed, arena, before_step, Begins, begins_nothing, by, Cell, Coordinating, deeds, done_at, effect, ended_in, Entry, ever, given_at, given_of, gives, is_busy, is_busy_at, IsLed, IsParked, IsSeated, IsSound, Kind, Layout, left_at, Legal, ListsKnown, Load, meaning, nat_tests, Op, opening_processor, opening_words, option_to_list, PackedWordsAreReadBack, place_of, point_of, Processor, processor_at, processor_kind, rests, rests_on, run_started, RunPhase, runs_are, seated, Setup, Shape, stage_of, started, state_stays, stop_word, Stopped, sweep_of, takes, Task, those, Words, words, Working}
 use Rattle.gh_coord.specs.Handshake as leading
-use Rattle.gh_mutator.specs.declared.task.Task.TheVariants as task
-use Rattle.gh_mutator.specs.Deeds.{meaning}
-use Rattle.gh_lists.specs.declared.handshake.Actor.TheVariants as actor
 use Rattle.gh_lists.specs.Handshake as handshake
-use Rattle.gh_marked.specs.HoldVocabulary.{given_of, opening_words}
-use Rattle.gh_marked.specs.Sweepers.{sweep_of}
-use Rattle.gh_marked.proofs.Vocabulary.{acks_of, Act, Actor, actors, actors_after, acts, Answer, answered, answered_by, AnsweredDeed, arena, by, Coordinating, deeds, done_at, effect, ended_in, Entry, ever, given_at, gives, is_busy, is_busy_at, IsLed, IsParked, IsSound, Kind, Layout, Legal, Load, nat_tests, Op, opening_processor, option_to_list, PackedWordsAreReadBack, place_of, point_of, Processor, processor_at, processor_kind, RunPhase, Shape, stage_of, started, stop_word, Stopped, takes, those, Words, words, Working}
-use Rattle.gh_marked.specs.Known.{ListsKnown}
-use Rattle.gh_lists.specs.Resting.{begins_nothing, rests, rests_on, runs_are, state_stays}
 use Rattle.gh_holds.proofs.AllActors.Stay.{ChangesNothing, led_by_it, sweeps_same, worker_sweeps_none}
 use Rattle.gh_holds.proofs.AllActors.Waiting.{StandsStill, stands_still}
-use Rattle.gh_lists.specs.Seats.{IsSeated, run_started, seated}
-use Rattle.gh_lists.specs.Handshake.{Setup}
 
 -- one that has left begins nothing
-pub left_stays : (shapes : List Shape) (l : Layout) (o : Option Op) (m : Processor) → m.task ≡ task.Left → started (processor_kind shapes l) o m ≡ m
+pub left_stays : (shapes : List Shape) (l : Layout) (o : Option Op) (m : Processor) → m.task ≡ Task.Left → started (processor_kind shapes l) o m ≡ m
 left_stays shapes l o m is = grind arith
 
 module _ (setup : Setup) where
@@ -43,7 +31,7 @@ module _ (setup : Setup) where
   module _ (e : Entry Op) (es : List (Entry Op)) where
     -- so it is of a step that loads, of an actor that has begun nothing, does nothing by it and stays as it was
     pub record LeavesAll : Type 0 where
-      pub loads : e.ask ≡ Load cell.Phase
+      pub loads : e.ask ≡ Load Cell.Phase
       pub none_begun : e.begun ≡ None
       pub no_point : done_at k (deeds setup.layout setup.shapes) es e ≡ None
       pub no_answer : (deeds setup.layout setup.shapes).gives (before_step k (deeds setup.layout setup.shapes) es e) e.found ≡ None
@@ -85,14 +73,14 @@ module _ (setup : Setup) where
     abbrev stops : ℕ
     stops = (leading.lead_of c).stops
 
-    moves_nobody : (e.ask ≡ Load cell.Phase) × (e.found ≡ stop_word stops)
+    moves_nobody : (e.ask ≡ Load Cell.Phase) × (e.found ≡ stop_word stops)
     moves_nobody = let x = (lists.steps e es legal).still (leading.lead_of c) phase (ap place_of led) post among in (x.0, x.1)
 
     module _ (lt : e.actor < setup.layout.procs) where
       abbrev m : Processor
       m = processor_at setup es e.actor
 
-      abbrev here : at es e.actor ≡ actor.Runs m
+      abbrev here : at es e.actor ≡ Actor.Runs m
       here = runs_are setup es e.actor lt
 
       sound : IsSound setup.layout m
@@ -104,7 +92,7 @@ module _ (setup : Setup) where
       runs : is_busy_at (started k e.begun m).task ≡ true
       runs = sym (ap is_busy (ap (started all e.begun) here ∙ run_started setup e.begun m)) ∙ legal.1.runs
 
-      not_left : m.task ≡ task.Left → ⊥
+      not_left : m.task ≡ Task.Left → ⊥
       not_left is = grind (arith, left_stays, runs)
 
       waits : StandsStill setup.layout back stops setup.shapes m
@@ -129,7 +117,7 @@ module _ (setup : Setup) where
         no_point = ap (λ (x : Processor). (deeds setup.layout setup.shapes).acts x e.found) before ∙ (ap (λ (n : ℕ). point_of (acts setup.layout m n)) moves_nobody.1 ∙ ap point_of waits.no_act);
         no_answer = ap (λ (x : Processor). (deeds setup.layout setup.shapes).gives x e.found) before ∙ (ap (λ (n : ℕ). given_at m.task (gives setup.layout m n)) moves_nobody.1 ∙ waits.no_answer);
         own = λ less. own_is;
-        sweeps = ap sweep_of (runs_are setup (e ∷ es) e.actor lt ∙ (ap actor.Runs own_is ∙ sym here));
+        sweeps = ap sweep_of (runs_are setup (e ∷ es) e.actor lt ∙ (ap Actor.Runs own_is ∙ sym here));
       }
 
     module _ (ge : setup.layout.procs ≤ e.actor) where
@@ -137,15 +125,15 @@ module _ (setup : Setup) where
       before_rests = rests_on setup e es legal ge (rests setup es legal.0 e.actor ge)
 
       -- who is neither a processor nor the coordinator is a worker
-      works : (w : Working) × (at es e.actor ≡ actor.Marks w)
+      works : (w : Working) × (at es e.actor ≡ Actor.Marks w)
       works = go (at es e.actor) refl where
         seat : (y : Actor) → at es e.actor ≡ y → IsSeated setup.layout e.actor y
         seat y is = subst (IsSeated setup.layout e.actor) is (seated setup es e.actor)
 
-        go : (y : Actor) → at es e.actor ≡ y → (w : Working) × (at es e.actor ≡ actor.Marks w)
-        go (actor.Marks w) is = (w, is)
-        go (actor.Runs y) is = absurd (let less : e.actor < setup.layout.procs = seat (actor.Runs y) is in omega (arith, less, ge))
-        go (actor.Leads y) is = absurd (let last = seat (actor.Leads y) is in omega (arith, last, among))
+        go : (y : Actor) → at es e.actor ≡ y → (w : Working) × (at es e.actor ≡ Actor.Marks w)
+        go (Actor.Marks w) is = (w, is)
+        go (Actor.Runs y) is = absurd (let less : e.actor < setup.layout.procs = seat (Actor.Runs y) is in omega (arith, less, ge))
+        go (Actor.Leads y) is = absurd (let last = seat (Actor.Leads y) is in omega (arith, last, among))
 
       by_worker : LeavesAll e es
       by_worker = record {

@@ -1,35 +1,25 @@
 -- Where an entry leaves everything as it was, what holds after the list holds still.
 use Rattle.std.proofs.Common.{sym, subst, List, ◌∷◌}
-use Rattle.gh_base.specs.declared.cell.Cell.TheVariants as cell
-use Rattle.gh_coord.specs.declared.close.CloseStage.{CloseStage}
-use Rattle.gh_coord.specs.declared.close.CloseStage.TheVariants as closing
-use Rattle.gh_coord.specs.declared.coord.CoordStage.{CoordStage}
-use Rattle.gh_coord.specs.declared.coord.CoordStage.TheVariants.{Close, Count, Done, LoadAck, LoadWant, Open, Stop, Sweep, Tell}
-use Rattle.gh_coord.specs.declared.open.OpenStage.{OpenStage}
-use Rattle.gh_coord.specs.declared.tell.TellStage.{TellStage}
-use Rattle.gh_coord.specs.declared.tell.TellStage.TheVariants as telling
+use Rattle.gh_holds.proofs.Vocabulary.{Cell, Close, CloseStage, Coordinating, CoordStage, Count, Done, Entry, HasCleared, HasCursor, HoldsAt, IsClosing, LoadAck, LoadWant, Op, Open, OpenStage, Setup, Stop, Sweep, Tell, TellStage, Words, words}
 use Rattle.gh_coord.specs.SweepingAll.{opening}
-use Rattle.gh_lists.specs.Lists.{words}
-use Rattle.gh_holds.specs.ActorsHold.{HasCleared, HasCursor, HoldsAt, IsClosing, IsTelling}
-use Rattle.gh_marked.specs.HoldVocabulary.{Coordinating, Entry, Op, Words}
+use Rattle.gh_holds.specs.ActorsHold.{IsTelling}
 use Rattle.gh_holds.proofs.AllActors.Stay.{ChangesNothing, counting_stays, quiet_stays, ready_stays, sweeping_stays, told_stays}
-use Rattle.gh_lists.specs.Handshake.{Setup}
 
 module _ (setup : Setup) (e : Entry Op) (es : List (Entry Op)) (still : ChangesNothing setup e es) (c : Coordinating) where
-  cursor_still : (stage : OpenStage) → HasCursor (words setup es cell.Gcur) stage → HasCursor (words setup (e ∷ es) cell.Gcur) stage
-  cursor_still stage x = subst (λ (w : Words). HasCursor (w cell.Gcur) stage) (sym still.words_are) x
+  cursor_still : (stage : OpenStage) → HasCursor (words setup es Cell.Gcur) stage → HasCursor (words setup (e ∷ es) Cell.Gcur) stage
+  cursor_still stage x = subst (λ (w : Words). HasCursor (w Cell.Gcur) stage) (sym still.words_are) x
 
-  cleared_still : (stage : OpenStage) → HasCleared (words setup es cell.Tally) (words setup es cell.Live) stage → HasCleared (words setup (e ∷ es) cell.Tally) (words setup (e ∷ es) cell.Live) stage
-  cleared_still stage x = subst (λ (w : Words). HasCleared (w cell.Tally) (w cell.Live) stage) (sym still.words_are) x
+  cleared_still : (stage : OpenStage) → HasCleared (words setup es Cell.Tally) (words setup es Cell.Live) stage → HasCleared (words setup (e ∷ es) Cell.Tally) (words setup (e ∷ es) Cell.Live) stage
+  cleared_still stage x = subst (λ (w : Words). HasCleared (w Cell.Tally) (w Cell.Live) stage) (sym still.words_are) x
 
   closing_still : (stage : CloseStage) → IsClosing setup es c stage → IsClosing setup (e ∷ es) c stage
-  closing_still closing.StorePhase x = sweeping_stays setup e es still c (opening c.generation) x
-  closing_still closing.Ended x = x
+  closing_still CloseStage.StorePhase x = sweeping_stays setup e es still c (opening c.generation) x
+  closing_still CloseStage.Ended x = x
   closing_still _ x = x
 
   telling_still : (stage : TellStage) → IsTelling setup es c stage → IsTelling setup (e ∷ es) c stage
-  telling_still telling.StoreTrigger x = told_stays setup e es still c x
-  telling_still telling.Ended x = x
+  telling_still TellStage.StoreTrigger x = told_stays setup e es still c x
+  telling_still TellStage.Ended x = x
   telling_still _ x = told_stays setup e es still c x
 
   -- at each stage of the coordinator

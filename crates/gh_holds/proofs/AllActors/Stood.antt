@@ -1,20 +1,15 @@
 -- While a cycle is marked what was placed where it began stays placed: no step of a processor takes an object from where it is placed, and no quiet step of another does.
 use Rattle.std.proofs.Common.{◌≡◌, inl, inr, ℕ, ◌/◌, Bool, true, false, cond, refl, sym, ap, subst, ◌∙◌, arith}
-use Rattle.std.proofs.lemmas.Bool.Decides.{eqb_tells}
-use Rattle.gh_base.specs.declared.cell.Cell.TheVariants as cell
-use Rattle.gh_base.specs.Footprints.{Footprint, FootprintsHold, row_of, Writes}
+use Rattle.gh_holds.proofs.Vocabulary.{alloc_words, Arena, Ask, birth_word, Cell, effect, eqb_tells, Footprint, FootprintsHold, Heap, IsPlacedAt, Name, row_bit, row_of, RowsAreWritten, view, Words, Writes}
 use Rattle.gh_base.specs.Footprints as row
-use Rattle.gh_base.specs.Packing.{birth_word}
-use Rattle.gh_base.specs.Rows.{RowsAreWritten}
 use Rattle.gh_heap.specs.Moves as heap
-use Rattle.gh_marked.proofs.Vocabulary.{alloc_words, Arena, Ask, Cell, effect, Heap, IsPlacedAt, Name, row_bit, view, Words}
 
 -- what is placed by the one words is so by the others
 abbrev pub Stays : Words → Words → Type 0
 Stays w v = (n : Name) (x : ℕ) → IsPlacedAt w n x → IsPlacedAt v n x
 
 -- alloc and birth words are as they were
-by_rows : (w v : Words) → ((i : ℕ) → v (cell.Alloc i) ≡ w (cell.Alloc i)) → ((i : ℕ) → v (cell.Birth i) ≡ w (cell.Birth i)) → Stays w v
+by_rows : (w v : Words) → ((i : ℕ) → v (Cell.Alloc i) ≡ w (Cell.Alloc i)) → ((i : ℕ) → v (Cell.Birth i) ≡ w (Cell.Birth i)) → Stays w v
 unfolding row_bit
 by_rows w v allocs births n x p = record { set = rw (allocs (x / 64)) p.set; says = births x ∙ p.says }
 
@@ -32,7 +27,7 @@ quiet_writes ask is = grind (arith, quiet_cell)
 
 module _ (k : FootprintsHold) where
   pub quiet_stays : (ask : Ask) → heap.IsQuiet ask → (w : Words) → Stays w (effect w ask)
-  quiet_stays ask is w = by_rows w (effect w ask) (λ i. k.leaves quiet_rows ask w (cell.Alloc i) (quiet_writes ask is) refl) (λ i. k.leaves quiet_rows ask w (cell.Birth i) (quiet_writes ask is) refl)
+  quiet_stays ask is w = by_rows w (effect w ask) (λ i. k.leaves quiet_rows ask w (Cell.Alloc i) (quiet_writes ask is) refl) (λ i. k.leaves quiet_rows ask w (Cell.Birth i) (quiet_writes ask is) refl)
 
   -- A slot whose birth word is written is clear, and making an object sets a bit.
   module _ (rows : RowsAreWritten) (z : Arena) (a : ℕ) (h : Heap) where
@@ -45,7 +40,7 @@ module _ (k : FootprintsHold) where
     move_stays (heap.Ends step g) may n x p = quiet_stays step may.0 h.words n x p
     move_stays (heap.SetBirth at size name) may n x p = elim (eqb_tells at x) [
       | inl y ↦ absurd (let clear = may.clear in let set = ap (λ (i : ℕ). row_bit (alloc_words h.words) i) y.1 ∙ p.set in omega (arith, clear, set))
-      | inr ne ↦ record { set = p.set; says = subst (λ (b : Bool). cond b (birth_word name) (h.words (cell.Birth x)) ≡ birth_word n) (sym ne.0) p.says }
+      | inr ne ↦ record { set = p.set; says = subst (λ (b : Bool). cond b (birth_word name) (h.words (Cell.Birth x)) ≡ birth_word n) (sym ne.0) p.says }
     ]
     move_stays (heap.Make at g d t) may n x p = elim (eqb_tells at x) [
       | inl y ↦ record { set = ap (λ (i : ℕ). row_bit (alloc_words (after (heap.Make at g d t))) i) (sym y.1) ∙ rows.sets_one (alloc_words h.words) at; says = p.says }

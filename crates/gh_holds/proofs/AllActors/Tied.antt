@@ -1,19 +1,7 @@
 -- What is known while a cycle is marked ties the state of marking to the list; and one that is of a list's heap has what there is.
 use Rattle.std.proofs.Common.{◌≡◌, ◌≢◌, ◌↔◌, ℕ, ◌+◌, ◌<◌, true, false, sym, ap, subst, ◌∙◌, arith, List}
-use Rattle.gh_base.specs.declared.cell.Cell.TheVariants as cell
-use Rattle.gh_base.specs.declared.pack.TheConstants.{END}
-use Rattle.gh_cycle.specs.Beside.{IsBeside}
-use Rattle.gh_cycle.specs.Reached.{TheReachedWereMade}
-use Rattle.gh_marks.specs.Colours.{mark_of, White}
-use Rattle.gh_model.specs.declared.EverValue.TheVariants as ever_value
-use Rattle.gh_model.specs.Ever.{from_register}
-use Rattle.gh_marked.specs.State.{HasState, processor_at}
+use Rattle.gh_holds.proofs.Vocabulary.{Arena, arena, Cell, Coordinating, Cycle, END, Entry, Ever, ever, EverValue, from_register, Good, HasState, IsBeside, IsInMarking, IsPlacedAt, Known, mark_of, mark_words, Marking, MarkingGood, Name, Op, processor_at, Reach, reference_of, REGISTERS, row_bit, runs_are, Setup, TheReachedWereMade, view, White, Words, words}
 use Rattle.gh_marked.specs.Tied.{HasObject, IsOfHeap, IsTied, ShowsWhatThereIs, TiesShowWhatThereIs}
-use Rattle.gh_marked.proofs.Vocabulary.{Arena, arena, Coordinating, Cycle, Entry, Ever, ever, Good, IsPlacedAt, mark_words, Marking, MarkingGood, Name, Op, Reach, reference_of, REGISTERS, row_bit, view, Words, words}
-use Rattle.gh_marked.specs.Known.{Known}
-use Rattle.gh_lists.specs.Resting.{runs_are}
-use Rattle.gh_marked.specs.Marked.{IsInMarking}
-use Rattle.gh_lists.specs.Handshake.{Setup}
 
 module _ (setup : Setup) (known : Known) (es : List (Entry Op)) where
   abbrev z : Arena
@@ -29,7 +17,7 @@ module _ (setup : Setup) (known : Known) (es : List (Entry Op)) where
     good = good;
     beside = beside;
     objects = known.objects y has.state.heap s (subst (λ (x : Arena). Good x (view has.state.heap)) (sym arena_is) has.good.heap) good (subst (λ (x : Arena). IsBeside x has.state.heap s) (sym arena_is) beside);
-    over = λ g. subst (λ (w : Words). (w (cell.Scanned g) ≡ END) ↔ ((ever setup es).ended g ≡ true)) has.of_list.words_are (subst (λ (v : Ever). (has.state.heap.words (cell.Scanned g) ≡ END) ↔ (v.ended g ≡ true)) has.of_list.ever_is (has.of_list.stacks g));
+    over = λ g. subst (λ (w : Words). (w (Cell.Scanned g) ≡ END) ↔ ((ever setup es).ended g ≡ true)) has.of_list.words_are (subst (λ (v : Ever). (has.state.heap.words (Cell.Scanned g) ≡ END) ↔ (v.ended g ≡ true)) has.of_list.ever_is (has.of_list.stacks g));
   }
 
   pub is_tied : (c : Coordinating) (m : IsInMarking z setup.pacing setup.may es c) → IsTied setup es m.cycle m.shared
@@ -57,7 +45,7 @@ module _ (were_made : TheReachedWereMade) (setup : Setup) (es : List (Entry Op))
   object : (n : Name) → Reach v n → HasObject setup es s n
   object n r = grind arith
 
-  register : (g d : ℕ) (n : Name) → g < setup.layout.goroutines → d < REGISTERS → v.ended g ≡ false → v.register g d ≡ ever_value.Ref n → s.registers g d ≡ t.heap.place n + 1
+  register : (g d : ℕ) (n : Name) → g < setup.layout.goroutines → d < REGISTERS → v.ended g ≡ false → v.register g d ≡ EverValue.Ref n → s.registers g d ≡ t.heap.place n + 1
   register g d n lt few goes is =
       t.beside.registers g d lt few (subst (λ (e : Ever). e.ended g ≡ false) (sym t.ever_is) goes)
       ∙ (ap (λ (e : Ever). reference_of t.heap.place (e.register g d)) t.ever_is ∙ ap (reference_of t.heap.place) is)

@@ -1,17 +1,11 @@
 -- The induction over lists of all actors, and what every list keeps.
 use Rattle.std.proofs.Common.{◌≡◌, sym, subst, ◌∙◌, List, [], ◌∷◌, inr}
+use Rattle.gh_holds.proofs.Vocabulary.{Actor, Coordinating, Entry, Given, KnowsHeap, ListsKnown, may_of, not_beginning, Op, setup_for, Wanted}
 use Rattle.gh_coord.specs.Listing as coord
-use Rattle.gh_lists.specs.declared.handshake.Actor.TheVariants as actor
-use Rattle.gh_lists.specs.Lists.{may_of, Given, setup_for}
-use Rattle.gh_marked.specs.HoldVocabulary.{Coordinating, Entry, Op}
-use Rattle.gh_marked.proofs.OneStep.Beside.{not_beginning}
-use Rattle.gh_marked.specs.Known.{ListsKnown}
 use Rattle.gh_holds.proofs.AllActors.Marks as marks
 use Rattle.gh_holds.proofs.AllActors.MarksLast as last
 use Rattle.gh_holds.proofs.AllActors.Scanned.{rests}
 use Rattle.gh_holds.proofs.AllActors.Steps as steps
-use Rattle.gh_marked.proofs.OneStep.Wanted.{Wanted}
-use Rattle.gh_marked.specs.Marked.{KnowsHeap}
 use Rattle.gh_lists.specs.Steps as seats
 
 module _ (given : Given) (wanted : Wanted) (lists : ListsKnown (setup_for given)) where
@@ -33,7 +27,7 @@ module _ (given : Given) (wanted : Wanted) (lists : ListsKnown (setup_for given)
     by (seats.by_processor m x stays) = steps.by_processor given wanted lists e es legal was c m (sym stays ∙ led) x.seat x.is (before c (sym stays ∙ led))
     by (seats.by_worker w x stays) = steps.by_worker given wanted lists e es legal was c w (sym stays ∙ led) x.from x.seat x.is (before c (sym stays ∙ led))
     by (seats.by_lead b x) =
-        let same : coord.goes given.layout b e.found ≡ c = (let both : actor.Leads c ≡ actor.Leads (coord.goes given.layout b e.found) = sym led ∙ x.then in cc) in
+        let same : coord.goes given.layout b e.found ≡ c = (let both : Actor.Leads c ≡ Actor.Leads (coord.goes given.layout b e.found) = sym led ∙ x.then in cc) in
         subst (H (e ∷ es)) same (steps.by_lead given wanted lists e es legal was b x.is x.seat x.then (before b x.is))
 
   -- what was marked before a start of the list was so before the list

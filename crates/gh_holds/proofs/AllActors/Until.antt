@@ -1,20 +1,12 @@
 -- What stood where a cycle began stands until its marking ends, of every list.
 use Rattle.std.proofs.Common.{◌≡◌, ◌⊎◌, inl, inr, ℕ, refl, sym, subst, ◌∙◌, List, [], ◌∷◌}
-use Rattle.gh_base.specs.declared.cell.Cell.TheVariants as cell
+use Rattle.gh_holds.proofs.Vocabulary.{arena, Ask, began_words, BeginsCycle, Cell, Coordinating, effect, EndsAllMarked, Entry, ever, HasState, IsBeginning, IsEnding, IsInCycle, IsLed, IsPlacedAt, IsStartOf, IsToBegin, Legal, legal_start, ListsKnown, MarksToTheEnd, Name, not_beginning, Op, Reach, Setup, StandsSoFar, StandsThrough, StandsUntilItsEnd, start_of_start, Store, those, Words, words}
 use Rattle.gh_coord.specs.Handshake as leading
-use Rattle.gh_holds.specs.Objects.{EndsAllMarked, StandsSoFar, StandsThrough, StandsUntilItsEnd}
-use Rattle.gh_lists.specs.Lists.{BeginsCycle}
-use Rattle.gh_marked.specs.State.{began_words}
-use Rattle.gh_marked.proofs.Vocabulary.{arena, Ask, Coordinating, effect, Entry, ever, HasState, IsBeginning, IsEnding, IsInCycle, IsLed, IsPlacedAt, IsStartOf, IsToBegin, Legal, MarksToTheEnd, Name, Op, Reach, Store, those, Words, words}
-use Rattle.gh_marked.proofs.OneStep.Beside.{not_beginning}
-use Rattle.gh_marked.specs.Known.{ListsKnown}
 use Rattle.gh_holds.proofs.AllActors.LeadingLast.{ends_by}
 use Rattle.gh_holds.proofs.AllActors.LeadingOnce.{begins_once}
 use Rattle.gh_holds.proofs.AllActors.LeadingSeat.{asked_at, by_step}
 use Rattle.gh_holds.specs.Standing.{stands_for}
-use Rattle.gh_lists.specs.Starts.{legal_start, start_of_start}
 use Rattle.gh_holds.proofs.AllActors.Stood.{Stays}
-use Rattle.gh_lists.specs.Handshake.{Setup}
 
 module _ (setup : Setup) (lists : ListsKnown setup)
     (es : List (Entry Op)) (legal : Legal (those setup) es) (states : (start : List (Entry Op)) → IsStartOf start es → HasState setup start) where
@@ -28,7 +20,7 @@ module _ (setup : Setup) (lists : ListsKnown setup)
   through begun ended of stays = record { placed = stays; reached = λ n r. let p = reached_there begun of n r in (p.0, p.1, stays n p.0 p.1) }
 
   -- the store that ends a cycle frees nothing
-  store_stays : (w : Words) (ask : Ask) → (x : ℕ) × (ask ≡ Store cell.Gen x) → Stays w (effect w ask)
+  store_stays : (w : Words) (ask : Ask) → (x : ℕ) × (ask ≡ Store Cell.Gen x) → Stays w (effect w ask)
   store_stays w ask is n a p = subst (λ (q : Ask). IsPlacedAt (effect w q) n a) (sym is.1) p
 
   pub until : EndsAllMarked setup es → StandsUntilItsEnd setup es
@@ -38,7 +30,7 @@ module _ (setup : Setup) (lists : ListsKnown setup)
       let m = ends d ds k of_ended step in
       let one : m.begun ≡ begun = begins_once setup lists k m.begun begun es legal (start_of_start m.begun (d ∷ ds) es (inr m.start) of_ended) of_begun (subst (λ (i : ℕ). BeginsCycle setup i m.begun) step.cycle m.begins) begins in
       let by = ends_by setup.layout step.lead step.lead.stage step.stage in
-      let asked : d.ask ≡ Store cell.Gen by.0 = asked_at setup lists d ds (by_step setup IsEnding k d ds legal_d step) step.lead.stage refl ∙ by.1 in
+      let asked : d.ask ≡ Store Cell.Gen by.0 = asked_at setup lists d ds (by_step setup IsEnding k d ds legal_d step) step.lead.stage refl ∙ by.1 in
       through begun (d ∷ ds) of_begun (λ n a p. store_stays (words setup ds) d.ask (by.0, asked) n a (m.stood n a (subst (λ (ys : List (Entry Op)). IsPlacedAt (words setup ys) n a) (sym one) p)))
 
   pub so_far : (c : Coordinating) → IsLed setup es c → leading.Marks c.stage → MarksToTheEnd (arena setup) setup.pacing setup.may es c → StandsSoFar setup es c

@@ -1,12 +1,7 @@
 -- The coordinator's walk over all pages: what it has seen lasts under the moves of others.
 use Rattle.std.proofs.Common.{◌≡◌, ◌≢◌, ℕ, ◌+◌, ◌<◌, sym, ap, subst, ◌∙◌, inl, inr, arith}
-use Rattle.gh_coord.specs.declared.sweep_all.SweepAllStage.{SweepAllStage}
-use Rattle.gh_coord.specs.declared.sweep_all.SweepAllStage.TheVariants as all
+use Rattle.gh_holds.proofs.Vocabulary.{Arena, CycleEnd, generation_of, HasNotNumber, IsBegun, Known, page_at, PassedBefore, State, StateGood, SweepAllStage, SweepingAll, Walks, WalksAt}
 use Rattle.gh_state.specs.Moves as state
-use Rattle.gh_sweep.specs.Facts.{HasNotNumber}
-use Rattle.gh_holds.specs.ActorsHold.{IsBegun, page_at, Walks, WalksAt}
-use Rattle.gh_marked.specs.HoldVocabulary.{Arena, CycleEnd, generation_of, PassedBefore, State, StateGood, SweepingAll}
-use Rattle.gh_marked.specs.Known.{Known}
 use Rattle.gh_marked.proofs.OneStep.Sweepers as sweepers
 
 -- A move of the actor at seat a; the walk is that of another, at seat b.
@@ -30,10 +25,10 @@ module _ (known : Known) (z : Arena) (a b : ℕ) (differs : b ≢ a) (s : State)
   within page lt = subst (λ (e : CycleEnd). page < e.layout.pages) (sym same_end) lt
 
   stage_last : (p : SweepAllStage) → WalksAt s p → WalksAt then p
-  stage_last (all.LoadPage page) is = within page is
-  stage_last (all.Sweep page sw) is = (within page is.0, is.1)
-  stage_last (all.Await page) is = (within page is.0, begun_last page is.1)
-  stage_last all.Ended is = tt
+  stage_last (SweepAllStage.LoadPage page) is = within page is
+  stage_last (SweepAllStage.Sweep page sw) is = (within page is.0, is.1)
+  stage_last (SweepAllStage.Await page) is = (within page is.0, begun_last page is.1)
+  stage_last SweepAllStage.Ended is = tt
 
   passed_last : (page : ℕ) → PassedBefore s page → PassedBefore then page
   passed_last page passed = known.walkers.own z a s m page good may passed

@@ -1,14 +1,8 @@
 -- Where an entry of a processor says `full`, there was no room: a search that finds none does so by its rights, behind its wait; polls, waits and leaves say nothing of it, and in a stopped world nobody does.
 use Rattle.std.proofs.Common.{◌≡◌, ◌<◌, true, sym, ap, subst, ◌∙◌, List, ◌∷◌, Option, Some, None}
-use Rattle.gh_lists.specs.declared.handshake.Actor.TheVariants as actor
-use Rattle.gh_lists.specs.Handshake.{asks as asks_by, Setup}
-use Rattle.gh_mutator_heap.specs.Facts.{FullAt}
-use Rattle.gh_marked.proofs.Vocabulary.{Act, Actor, actors, acts, Arena, arena, Ask, asks, cell_of, deeds, done_at, Entry, HasState, Heap, IsFullFor, IsHeapOf, Kind, Legal, Op, Processor, processor_at, processor_kind, started, state_of, those, view, Words, words}
-use Rattle.gh_marked.specs.Known.{Known}
+use Rattle.gh_holds.proofs.Vocabulary.{Act, Actor, actors, acts, Arena, arena, Ask, asks, asks_by, cell_of, deeds, done_at, Entry, FullAt, HasState, Heap, IsFullFor, IsHeapOf, Kind, Known, Legal, Op, Processor, processor_at, processor_kind, run_started, runs_are, Setup, started, state_of, those, view, Words, words}
 use Rattle.gh_marked.proofs.OneStep.Refusals.{full_for, full_searches, goes_on, IsSearchedAgain, point_is}
-use Rattle.gh_lists.specs.Resting.{runs_are}
 use Rattle.gh_holds.proofs.AllActors.Still.{IsStill}
-use Rattle.gh_lists.specs.Seats.{run_started}
 
 module _ (setup : Setup) (e : Entry Op) (es : List (Entry Op)) where
   abbrev z : Arena
@@ -42,7 +36,7 @@ module _ (setup : Setup) (e : Entry Op) (es : List (Entry Op)) where
       abbrev now : Processor
       now = started k e.begun m
 
-      here : started all e.begun (state_of all e.actor es) ≡ actor.Runs now
+      here : started all e.begun (state_of all e.actor es) ≡ Actor.Runs now
       here = ap (started all e.begun) (runs_are setup es e.actor lt) ∙ run_started setup e.begun m
 
       searched : (x : Act) → point ≡ Some x → x.full ≡ true → IsSearchedAgain now.task

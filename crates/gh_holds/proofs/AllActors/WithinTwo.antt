@@ -1,23 +1,12 @@
 -- What becomes unreachable is free once the second cycle whose marking ends after that is swept: what a script has lost it never reaches again, and a cycle begins behind the end of each one before it.
 use Rattle.std.proofs.Common.{◌≡◌, ◌⊎◌, inl, inr, ℕ, suc, ◌<◌, ◌≤◌, ltb, Bool, true, false, refl, sym, ap, subst, ◌∙◌, arith, List, [], ◌∷◌, Option, Some, None}
-use Rattle.gh_heap.specs.Laws.{name_made}
+use Rattle.gh_holds.proofs.Vocabulary.{acted, acts, Answer, Arena, arena, asks, BeginsCycle, cell_of, compared, Does, EndsCycle, Entry, Ever, ever, ever_stays, FreesTheUnreached, FreesWithinTwo, Given, Good, HasState, Heap, InCycles, IsEnding, IsHeapOf, IsMade, IsStartOf, Legal, legal_start, ListsKnown, moved, Name, name_made, nat_tests, Op, Processor, Reach, setup_for, start_of_start, State, sweep_in, Sweeping, those, view, Wanted, whole}
 use Rattle.gh_heap.specs.Moves as heap
-use Rattle.gh_mutator_heap.specs.Facts.{Does}
-use Rattle.gh_mutator.specs.Sweeping.{sweep_in}
 use Rattle.gh_state.specs.Moves as state
-use Rattle.gh_sweep.specs.Listing.{Sweeping}
-use Rattle.gh_holds.specs.Objects.{FreesTheUnreached, FreesWithinTwo}
-use Rattle.gh_lists.specs.Lists.{BeginsCycle, Given, setup_for}
-use Rattle.gh_marked.proofs.Vocabulary.{acted, acts, Answer, Arena, arena, cell_of, asks, EndsCycle, Entry, Ever, ever, Good, HasState, Heap, IsEnding, IsHeapOf, IsMade, IsStartOf, Legal, moved, Name, nat_tests, Op, Processor, Reach, State, those, view}
-use Rattle.gh_marked.specs.Known.{ListsKnown}
 use Rattle.gh_marked.proofs.OneStep.Landing as landing
 use Rattle.gh_holds.proofs.AllActors.LeadingNumbers.{beginning, ends_it, numbers_at, start_rises}
 use Rattle.gh_holds.proofs.AllActors.LeadingSeat.{by_step}
-use Rattle.gh_lists.specs.Starts.{compared, legal_start, start_of_start, whole}
 use Rattle.gh_marked.proofs.OneStep.OwnStep as step
-use Rattle.gh_lists.specs.Resting.{ever_stays}
-use Rattle.gh_marked.proofs.OneStep.Wanted.{Wanted}
-use Rattle.gh_holds.specs.EveryList.{InCycles}
 
 -- an object of this name was made, and no script reaches it
 record IsLost (n : Name) (v : Ever) : Type 0 where

@@ -1,31 +1,19 @@
 -- One entry more of a worker, outside of marking: it is a step of the sweep that it runs, or its step is on no word of which anything is said of the heap.
 use Rattle.std.proofs.Common.{◌≡◌, ℕ, ◌+◌, ◌<◌, ◌≤◌, true, refl, sym, ap, subst, ◌∙◌, arith, List, ◌∷◌, Option, Some, None}
-use Rattle.gh_base.specs.declared.cell.Cell.TheVariants as cell
-use Rattle.gh_coord.specs.declared.close.CloseStage.TheVariants as closing
-use Rattle.gh_coord.specs.declared.tell.TellStage.TheVariants as telling
+use Rattle.gh_holds.proofs.Vocabulary.{acks_of, Actor, actors_after, Arena, arena, Cell, Close, CloseStage, Coordinating, CoordStage, Count, CountStage, CycleEnd, Done, effect, Entry, ever_stays, HasEnded, HasRead, HasState, Holds, HoldsAt, in_all, IsClosing, IsCounting, IsInSweep, IsLed, IsQuiet, IsSweeping, IsTold, Legal, ListsKnown, live_at, LoadAck, LoadWant, on_from, Op, Open, OpenStage, place_of, RunPhase, Setup, State, Stop, Stopped, Sweep, Sweeping, SweepingAll, Tell, TellStage, those, Words, words}
 use Rattle.gh_coord.specs.Closing as closes_by
 use Rattle.gh_coord.specs.Handshake as leading
 use Rattle.gh_coord.specs.Opening as opens_by
-use Rattle.gh_phase.specs.declared.view.RunPhase.TheVariants as run
 use Rattle.gh_phase.specs.Listing as resume
 use Rattle.gh_sweep.specs.Listing as sweep
-use Rattle.gh_sweep.specs.Listing.{Sweeping}
-use Rattle.gh_sweep.specs.Running.{on_from}
-use Rattle.gh_sweep.specs.Shared.{in_all, live_at}
 use Rattle.gh_sweep.specs.Sweepers.{move_of}
 use Rattle.gh_worker.specs.Listing as worker
 use Rattle.gh_worker.specs.Writing.{IsCalm}
-use Rattle.gh_lists.specs.declared.handshake.Actor.TheVariants as actor
-use Rattle.gh_holds.specs.ActorsHold.{HasEnded, HasRead, Holds, HoldsAt, IsClosing, IsCounting, IsQuiet, IsSweeping, IsTelling, IsTold}
+use Rattle.gh_holds.specs.ActorsHold.{IsTelling}
 use Rattle.gh_lists.specs.Handshake as handshake
-use Rattle.gh_marked.specs.HoldVocabulary.{SweepingAll}
-use Rattle.gh_marked.specs.Sweepers.{IsInSweep}
-use Rattle.gh_marked.proofs.Vocabulary.{acks_of, actors_after, Arena, arena, Close, CloseStage, Coordinating, CoordStage, Count, CountStage, CycleEnd, Done, effect, Entry, HasState, IsLed, Legal, LoadAck, LoadWant, Op, Open, OpenStage, place_of, RunPhase, State, Stop, Stopped, Sweep, Tell, TellStage, those, Words, words}
 use Rattle.gh_holds.proofs.AllActors.Aside as aside
 use Rattle.gh_holds.proofs.AllActors.Aside.{telling_rows, TellsNothing}
-use Rattle.gh_marked.specs.Known.{ListsKnown}
 use Rattle.gh_holds.proofs.AllActors.Others.{no_full, was_by_others}
-use Rattle.gh_lists.specs.Resting.{ever_stays}
 use Rattle.gh_holds.proofs.AllActors.SinceEnd.{as_it_ended, has_ended_on, KeepsEnd, LastStays, quiet_keeps_end, sweep_keeps_end}
 use Rattle.gh_holds.proofs.AllActors.Starts.{counted_on}
 use Rattle.gh_holds.proofs.AllActors.Stay.{changes_nothing, ChangesNothing, led_by_it, sweeping_stays, worker_sweeps_none}
@@ -33,10 +21,9 @@ use Rattle.gh_holds.proofs.AllActors.StillHolds.{holds_still}
 use Rattle.gh_marked.proofs.OneStep.Sweepers as sweepers
 use Rattle.gh_holds.proofs.AllActors.Walking.{walks_last}
 use Rattle.gh_marked.proofs.OneStep.WorkersSweep as sweeping
-use Rattle.gh_lists.specs.Handshake.{Setup}
 
 -- while a cycle is opened the world is stopped
-open_stopped : (p : OpenStage) → opens_by.is_busy p ≡ true → leading.open_post p ≡ Stopped run.Off
+open_stopped : (p : OpenStage) → opens_by.is_busy p ≡ true → leading.open_post p ≡ Stopped RunPhase.Off
 open_stopped p busy = grind arith
 
 module _ (setup : Setup) (lists : ListsKnown setup)
@@ -57,7 +44,7 @@ module _ (setup : Setup) (lists : ListsKnown setup)
   open_busy : (o : opens_by.CycleOpening) → c.stage ≡ Open o → opens_by.is_busy o.stage ≡ true
   open_busy o is = (subst (leading.SoundAt c) is (subst (handshake.Sound setup.layout) led ((lists.keeps es legal.0).shakes.all_sound (acks_of setup.layout) (omega arith))).1).1
 
-  module _ (w : worker.Working) (ge : setup.layout.procs ≤ e.actor) (is : actors_after z setup.pacing setup.may es e.actor ≡ actor.Marks w) where
+  module _ (w : worker.Working) (ge : setup.layout.procs ≤ e.actor) (is : actors_after z setup.pacing setup.may es e.actor ≡ Actor.Marks w) where
     -- in a stopped world nothing changes
     nothing : (phase : RunPhase) → leading.post_at c.stage ≡ Stopped phase → ChangesNothing setup e es
     nothing phase post = changes_nothing setup e es lists.known legal ge among (told_stays phase post) (worker_sweeps_none setup e es lists legal c phase led post among w is)
@@ -67,7 +54,7 @@ module _ (setup : Setup) (lists : ListsKnown setup)
       -- what its step is and leaves, and that it leaves buffers and what the state says of the end of the last cycle
       pub record WorkerLands : Type 0 where
         pub lands : aside.Lands setup lists.known e es legal ge has
-        pub buffers : (b : ℕ) → (aside.then setup lists.known e es legal ge has lands).heap.words (cell.Buffer b) ≡ has.state.heap.words (cell.Buffer b)
+        pub buffers : (b : ℕ) → (aside.then setup lists.known e es legal ge has lands).heap.words (Cell.Buffer b) ≡ has.state.heap.words (Cell.Buffer b)
         pub ends : KeepsEnd has.state (aside.then setup lists.known e es legal ge has lands)
 
       asked : e.ask ≡ worker.asks setup.layout w
@@ -174,13 +161,13 @@ module _ (setup : Setup) (lists : ListsKnown setup)
       }
 
       telling_on : (p : TellStage) → IsTelling setup es c p → IsTelling setup (e ∷ es) c p
-      telling_on telling.StoreTrigger h = told_on h
-      telling_on telling.Ended h = h
+      telling_on TellStage.StoreTrigger h = told_on h
+      telling_on TellStage.Ended h = h
       telling_on _ h = told_on h
 
     closing_on : (y : closes_by.Closing) → c.stage ≡ Close y → (p : CloseStage) → y.stage ≡ p → IsClosing setup es c p → IsClosing setup (e ∷ es) c p
-    closing_on y x closing.StorePhase at h = sweeping_stays setup e es (nothing run.Mark (post_is (Close y) run.Mark x (ap leading.close_post at))) c _ h
-    closing_on y x closing.Ended at h = h
+    closing_on y x CloseStage.StorePhase at h = sweeping_stays setup e es (nothing RunPhase.Mark (post_is (Close y) RunPhase.Mark x (ap leading.close_post at))) c _ h
+    closing_on y x CloseStage.Ended at h = h
     closing_on y x _ at h = h
 
     off_at : (p : CoordStage) → c.stage ≡ p → (leading.Marks p → ⊥) → leading.Marks c.stage → ⊥
@@ -190,7 +177,7 @@ module _ (setup : Setup) (lists : ListsKnown setup)
     at_then (LoadAck i) x h = quiet_on (off_at (LoadAck i) x (λ y. y)) h
     at_then LoadWant x h = quiet_on (off_at LoadWant x (λ y. y)) h
     at_then (Stop st) x h = quiet_on (off_at (Stop st) x (λ y. y)) h
-    at_then (Open o) x h = holds_still setup e es (nothing run.Off (post_is (Open o) run.Off x (open_stopped o.stage (open_busy o x)))) c (Open o) h
+    at_then (Open o) x h = holds_still setup e es (nothing RunPhase.Off (post_is (Open o) RunPhase.Off x (open_stopped o.stage (open_busy o x)))) c (Open o) h
     at_then (Close y) x h = closing_on y x y.stage refl h
     at_then (Sweep v) x h = sweeping_on (off_at (Sweep v) x (λ y. y)) v h
     at_then (Count y) x h = counting_on (off_at (Count y) x (λ y. y)) y.stage h

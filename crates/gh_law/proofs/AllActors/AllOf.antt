@@ -1,24 +1,16 @@
 -- After every legal list of all actors all stands, by what holds after it.
 use Rattle.std.proofs.Common.{List}
+use Rattle.gh_law.proofs.Vocabulary.{AllStands, Coordinating, Entry, Given, HasState, Holds, HoldsAfter, InCycles, IsLed, IsMarking, led_then, Legal, ListsKnown, Op, setup_for, SlotsAreRead, SpansStand, those, words}
 use Rattle.gh_coord.specs.Handshake as leading
-use Rattle.gh_law.specs.Actors.{AllStands}
-use Rattle.gh_lists.specs.Lists.{IsLed, Given, setup_for}
-use Rattle.gh_holds.specs.ActorsHold.{Holds}
-use Rattle.gh_holds.specs.Below.{HasState, IsMarking, ListsKnown, SpansStand}
-use Rattle.gh_law.proofs.Vocabulary.{Coordinating, Entry, Op, words, Legal}
-use Rattle.gh_lists.specs.Handshake.{those}
 use Rattle.gh_law.proofs.AllActors.Asked.{all_asked, all_opened}
-use Rattle.gh_lists.specs.Going.{led_then}
 use Rattle.gh_law.proofs.AllActors.HeapBytes.{heap_bytes}
 use Rattle.gh_law.proofs.AllActors.OwnedSpans.{one_of_each, owners_stand}
 use Rattle.gh_law.proofs.AllActors.Phases.{phases_stand}
 use Rattle.gh_law.proofs.AllActors.Saying.{all_stands}
 use Rattle.gh_law.proofs.AllActors.Scans.{scans_once}
 use Rattle.gh_law.proofs.AllActors.SweepMarks.{sweeps_stand}
-use Rattle.gh_holds.specs.EveryList.{InCycles, HoldsAfter}
 use Rattle.gh_law.proofs.Awaited.Waited.{awaits}
 use Rattle.gh_law.proofs.Within.Actors.{steps_within}
-use Rattle.gh_state.specs.Slots.{SlotsAreRead}
 
 module _ (given : Given) (slots : SlotsAreRead) (lists : ListsKnown (setup_for given))
     (held : (es : List (Entry Op)) → Legal (those (setup_for given)) es → HoldsAfter (setup_for given) es) where

@@ -1,27 +1,13 @@
 -- In every list each cycle was asked for, but the last: where the word of the request is set, a processor has asked for a cycle since the last was opened; and where a cycle begins it was opened, and no other since.
-use Rattle.std.proofs.Common.{◌≡◌, ℕ, zero, suc, ◌≤◌, ◌⊎◌, inl, inr, Bool, true, false, cond, refl, sym, ap, subst, ◌∙◌, arith, List, [], ◌∷◌, length}
-use Rattle.std.specs.Prelude.{bit_or}
-use Rattle.gh_base.specs.declared.cell.Cell.TheVariants as cell
+use Rattle.std.proofs.Common.{◌≡◌, ℕ, zero, suc, ◌≤◌, ◌⊎◌, inl, inr, Bool, true, false, cond, refl, sym, ap, subst, ◌∙◌, arith, List, [], ◌∷◌, length, bit_or}
+use Rattle.gh_law.proofs.Vocabulary.{Actor, AllWereAsked, AllWereOpened, Ask, asked_after, asks, asks_for_one, AsksForCycle, before_step, BeginsCycle, BeginsToWait, Cell, Coordinating, CoordStage, CountsWants, effect, Entry, IsBeginning, IsClearing, IsStartOf, IsToOpen, IsWanting, IsWritten, KeepsIt, Layout, leaves_numbers, Legal, legal_start, NoneOpensSince, Op, opens_one, OpensCycle, Or, Processor, processor_kind, ProcessorWritesItsOwn, runs_are, SawTriggerReached, Setup, started, state_of, Store, those, WasAsked, WasOpened, Words, WorkersWriteTheirOwn, Working, WritesOf}
 use Rattle.gh_coord.specs.Listing as coord
 use Rattle.gh_worker.specs.Listing as worker
-use Rattle.gh_lists.specs.declared.handshake.Actor.TheVariants as actor
-use Rattle.gh_law.specs.Actors.{AllWereOpened}
-use Rattle.gh_lists.specs.Lists.{BeginsCycle}
-use Rattle.gh_law.specs.Asked.{AllWereAsked, AsksForCycle, IsClearing, NoneOpensSince, OpensCycle, SawTriggerReached, WasAsked, WasOpened}
-use Rattle.gh_mutator_writes.specs.Writing.{BeginsToWait}
-use Rattle.gh_lists.specs.Numbers.{asks_for_one, opens_one}
-use Rattle.gh_lists.specs.Order.{before_step}
-use Rattle.gh_lists.specs.Wants.{CountsWants, IsToOpen}
-use Rattle.gh_law.proofs.Vocabulary.{Ask, asked_after, asks, Coordinating, CoordStage, effect, Entry, IsBeginning, IsStartOf, IsWanting, IsWritten, KeepsIt, Layout, Legal, Op, Or, Processor, processor_kind, ProcessorWritesItsOwn, started, state_of, Store, those, Words, WorkersWriteTheirOwn, Working, WritesOf}
-use Rattle.gh_lists.specs.Resting.{runs_are}
-use Rattle.gh_lists.specs.Starts.{legal_start}
 use Rattle.gh_law.proofs.AllActors.Triggered.{asked as trigger_asked, saw}
 use Rattle.gh_lists.specs.Frames.{leaves, LeavesCycleWords}
 use Rattle.gh_lists.specs.Quiet.{worker_quiet}
 use Rattle.gh_law.proofs.AllActors.Opened.{clears, IsOpened, none_opened, opened}
 use Rattle.gh_lists.specs.Steps as seats
-use Rattle.gh_lists.specs.Writing.{leaves_numbers}
-use Rattle.gh_lists.specs.Handshake.{Setup}
 
 -- a start of a list is no longer than it
 no_longer : (start es : List (Entry Op)) → IsStartOf start es → length start ≤ length es
@@ -36,10 +22,10 @@ none_behind es e before of behind = absurd (let one = no_longer (e ∷ before) e
 -- it opens no cycle, and leaves the word of the request
 record LeavesRequest (w : Words) (ask : Ask) : Type 0 where
   opens_none : opens_one ask ≡ false
-  same : effect w ask cell.Want ≡ w cell.Want
+  same : effect w ask Cell.Want ≡ w Cell.Want
 
 -- the step that asks for a cycle
-asks_by : (l : Layout) (m : Processor) (q : Ask) → asks l m ≡ q → WritesOf (IsWritten l m) q → asks_for_one q ≡ true → IsWanting m.task × (asks l m ≡ Or cell.Want 1)
+asks_by : (l : Layout) (m : Processor) (q : Ask) → asks l m ≡ q → WritesOf (IsWritten l m) q → asks_for_one q ≡ true → IsWanting m.task × (asks l m ≡ Or Cell.Want 1)
 asks_by l m q is w one = grind arith
 
 asks_one : (ask : Ask) → ((before : ℕ) → asked_after ask before ≡ suc before) → asks_for_one ask ≡ true
@@ -62,18 +48,18 @@ clears_one l c p is = grind arith
 module _ (setup : Setup)
     (writes : ProcessorWritesItsOwn) (works : WorkersWriteTheirOwn)
     (keeps : (es : List (Entry Op)) → Legal (those setup) es → KeepsIt (those setup) es)
-    (wants : (es : List (Entry Op)) (c : Coordinating) → Legal (those setup) es → seats.at setup es (seats.n setup) ≡ actor.Leads c → CountsWants (those setup) es c) where
+    (wants : (es : List (Entry Op)) (c : Coordinating) → Legal (those setup) es → seats.at setup es (seats.n setup) ≡ Actor.Leads c → CountsWants (those setup) es c) where
   abbrev Lawful : List (Entry Op) → Type 0
   Lawful es = Legal (those setup) es
 
   abbrev Led : List (Entry Op) → Coordinating → Type 0
-  Led es c = seats.at setup es (seats.n setup) ≡ actor.Leads c
+  Led es c = seats.at setup es (seats.n setup) ≡ Actor.Leads c
 
   abbrev told : List (Entry Op) → Words
   told es = seats.words setup es
 
   abbrev Asked : List (Entry Op) → Type 0
-  Asked es = told es cell.Want ≡ 1 → WasAsked setup es
+  Asked es = told es Cell.Want ≡ 1 → WasAsked setup es
 
   abbrev Opened : List (Entry Op) → Coordinating → Type 0
   Opened es c = IsOpened c.stage → WasOpened setup c.begun es
@@ -102,7 +88,7 @@ module _ (setup : Setup)
       asker : (m : Processor) → seats.RunsIt setup e es m → asks_for_one e.ask ≡ true → AsksForCycle setup e es
       asker m x one =
           let k = processor_kind setup.shapes setup.layout in
-          let both : actor.Runs m ≡ actor.Runs (state_of k e.actor es) = sym x.is ∙ runs_are setup es e.actor x.seat in
+          let both : Actor.Runs m ≡ Actor.Runs (state_of k e.actor es) = sym x.is ∙ runs_are setup es e.actor x.seat in
           let own : m ≡ state_of k e.actor es = cc in
           let w = asks_by setup.layout (started k e.begun m) (asks setup.layout (started k e.begun m)) refl (writes.writes setup.layout (started k e.begun m) x.sound_then) (sym (ap asks_for_one x.asked) ∙ one) in
           record { by = x.seat; where_it_may = where_it_may (subst (λ (y : Processor). IsWanting (started k e.begun y).task) own w.0); asks = x.asked ∙ w.1 } where
@@ -115,7 +101,7 @@ module _ (setup : Setup)
         y : LeavesCycleWords (told es) e.ask
         y = leaves_by m x
 
-        go : (((before : ℕ) → asked_after e.ask before ≡ before) × (told (e ∷ es) cell.Want ≡ told es cell.Want)) ⊎ (((before : ℕ) → asked_after e.ask before ≡ suc before) × (told (e ∷ es) cell.Want ≡ bit_or (told es cell.Want) 1)) → WasAsked setup (e ∷ es)
+        go : (((before : ℕ) → asked_after e.ask before ≡ before) × (told (e ∷ es) Cell.Want ≡ told es Cell.Want)) ⊎ (((before : ℕ) → asked_after e.ask before ≡ suc before) × (told (e ∷ es) Cell.Want ≡ bit_or (told es Cell.Want) 1)) → WasAsked setup (e ∷ es)
         go (inl z) = asked_more (none_opened e.ask y.opens_none) (before (sym z.1 ∙ set))
         go (inr z) = record { entry = e; earlier = es; start = inl refl; asks = asker m x (asks_one e.ask z.0); since = none_behind (e ∷ es) }
 
@@ -123,15 +109,15 @@ module _ (setup : Setup)
       asked_working w x before set = let y = working w x in asked_more y.opens_none (before (sym y.same ∙ set))
 
       -- the coordinator clears the request where it opens a cycle, or leaves it
-      leading : (c : Coordinating) → seats.LeadsIt setup e es c → (IsClearing c.stage × (e.ask ≡ Store cell.Want 0)) ⊎ ((opens_one e.ask ≡ false) × (told (e ∷ es) cell.Want ≡ told es cell.Want))
+      leading : (c : Coordinating) → seats.LeadsIt setup e es c → (IsClearing c.stage × (e.ask ≡ Store Cell.Want 0)) ⊎ ((opens_one e.ask ≡ false) × (told (e ∷ es) Cell.Want ≡ told es Cell.Want))
       leading c x = elim (clears (told es) setup.layout c c.stage) [
         | inl y ↦ inl (y.0, x.asked ∙ y.1)
-        | inr y ↦ inr (ap opens_one x.asked ∙ y.0, ap (λ (q : Ask). effect (told es) q cell.Want) x.asked ∙ y.1)
+        | inr y ↦ inr (ap opens_one x.asked ∙ y.0, ap (λ (q : Ask). effect (told es) q Cell.Want) x.asked ∙ y.1)
       ]
 
       asked_leading : (c : Coordinating) → seats.LeadsIt setup e es c → Asked es → Asked (e ∷ es)
       asked_leading c x before set = elim (leading c x) [
-        | inl y ↦ absurd (let cleared : told (e ∷ es) cell.Want ≡ 0 = ap (λ (q : Ask). effect (told es) q cell.Want) y.1 in omega (arith, cleared, set))
+        | inl y ↦ absurd (let cleared : told (e ∷ es) Cell.Want ≡ 0 = ap (λ (q : Ask). effect (told es) q Cell.Want) y.1 in omega (arith, cleared, set))
         | inr y ↦ asked_more y.0 (before (sym y.1 ∙ set))
       ]
 
@@ -190,7 +176,7 @@ module _ (setup : Setup)
         go : seats.Step setup e es → Opened (e ∷ es) to
         go (seats.by_processor m x stays) = beside (none_opened e.ask (leaves_by m x).opens_none) (sym stays ∙ led)
         go (seats.by_worker w x stays) = beside ((working w x).opens_none) (sym stays ∙ led)
-        go (seats.by_lead c x) = lead c x (let both : actor.Leads to ≡ actor.Leads (coord.goes setup.layout c e.found) = sym led ∙ x.then in cc)
+        go (seats.by_lead c x) = lead c x (let both : Actor.Leads to ≡ Actor.Leads (coord.goes setup.layout c e.found) = sym led ∙ x.then in cc)
 
   asked : (es : List (Entry Op)) → Lawful es → Asked es
   asked [] legal set = absurd cc

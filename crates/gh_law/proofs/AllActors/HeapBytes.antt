@@ -1,27 +1,7 @@
 -- The heap's count of bytes over the words and the actors alone: the one state has it with the bytes of each slot and what each seat has yet to count and to take off; the page words tell the first, and the actors' own stages the others.
-use Rattle.std.proofs.Common.{◌≡◌, ◌≢◌, inl, inr, ℕ, zero, suc, ◌+◌, ◌*◌, ◌/◌, ◌%◌, ◌<◌, ◌≤◌, refl, sym, ap, subst, ◌∙◌, arith, List, Option, Some, None}
-use Rattle.std.specs.Prelude.{count_ones}
-use Rattle.std.proofs.lemmas.Bool.{cases_lt}
-use Rattle.std.proofs.lemmas.Bool.Decides.{eqb_tells}
+use Rattle.std.proofs.Common.{◌≡◌, ◌≢◌, inl, inr, ℕ, zero, suc, ◌+◌, ◌*◌, ◌/◌, ◌%◌, ◌<◌, ◌≤◌, refl, sym, ap, subst, ◌∙◌, arith, List, Option, Some, None, count_ones}
 use Rattle.std.proofs.lemmas.Nat.{ones_le_self}
-use Rattle.std.proofs.lemmas.Nat.Bits.{bit_at-zero, same_from_bits_below}
-use Rattle.std.specs.Int.{bit_at}
-use Rattle.gh_base.specs.declared.cell.Cell.TheVariants as cell
-use Rattle.gh_base.specs.declared.pack.PageWord.TheVariants.{Head}
-use Rattle.gh_base.specs.declared.pack.SpanHead.{SpanHead}
-use Rattle.gh_heap.specs.Rights.{Frees, IsKept}
-use Rattle.gh_state.specs.Slots.{SlotsAreRead}
-use Rattle.gh_sweep.specs.Bits.{sum_below}
-use Rattle.gh_sweep.specs.Listing.{Sweeping}
-use Rattle.gh_sweep.specs.Shared.{Due, InSpan, owed, placed_in}
-use Rattle.gh_lists.specs.declared.handshake.Actor.TheVariants as actor
-use Rattle.gh_holds.specs.Below.{HeapIsCounted, IsInSweep, Known, sweep_of, uncounted_at, untaken, untaken_at}
-use Rattle.gh_law.proofs.Vocabulary.{placed, slot_row, Actor, actors_after, alloc_words, arena, Entry, HasState, Layout, Op, page_of, page_words, row_bit, seats_of, State, Words}
-use Rattle.gh_lists.specs.Wants.{total}
-use Rattle.gh_lists.specs.Resting.{runs_are}
-use Rattle.gh_lists.specs.Seats.{IsSeated, seated}
-use Rattle.gh_lists.specs.SumsBelow.{sum_more, sum_none, sum_same}
-use Rattle.gh_lists.specs.Handshake.{Setup}
+use Rattle.gh_law.proofs.Vocabulary.{Actor, actors_after, alloc_words, arena, bit_at, bit_at-zero, cases_lt, Cell, Due, Entry, eqb_tells, Frees, HasState, Head, HeapIsCounted, InSpan, IsInSweep, IsKept, IsSeated, Known, Layout, Op, owed, page_of, page_words, placed, placed_in, row_bit, runs_are, same_from_bits_below, seated, seats_of, Setup, slot_row, SlotsAreRead, SpanHead, State, sum_below, sum_more, sum_none, sum_same, sweep_of, Sweeping, total, uncounted_at, untaken, untaken_at, Words}
 
 sum_is_total : (f g : ℕ → ℕ) (n : ℕ) → ((a : ℕ) → a < n → f a ≡ g a) → sum_below f n ≡ total g n
 sum_is_total f g zero h = sum_none f
@@ -50,46 +30,46 @@ module _ (setup : Setup) (known : Known) (read : SlotsAreRead) (es : List (Entry
   -- The bytes of slots.
 
   -- where a bit is set nobody frees the span: no object stands in one that is being freed
-  kept : (i : ℕ) → now (cell.Alloc i) ≢ 0 → (c : InSpan (page_words now) i) → IsKept s.heap.freeing c.p
-  kept i some c a y frees first = some (same_from_bits_below 64 (now (cell.Alloc i)) 0 (has.good.heap.words i) (omega arith) (λ j low. no_bit j low ∙ sym (bit_at-zero j))) where
+  kept : (i : ℕ) → now (Cell.Alloc i) ≢ 0 → (c : InSpan (page_words now) i) → IsKept s.heap.freeing c.p
+  kept i some c a y frees first = some (same_from_bits_below 64 (now (Cell.Alloc i)) 0 (has.good.heap.words i) (omega arith) (λ j low. no_bit j low ∙ sym (bit_at-zero j))) where
     f : Frees (page_words now) (alloc_words now) s.heap.locked a y
     f = has.good.heap.freeing a y frees
 
     same_head : f.being.h ≡ c.h
-    same_head = let both : Head f.being.h ≡ Head c.h = sym f.being.head ∙ (ap (λ (p : ℕ). page_of (now (cell.Page p))) first ∙ c.head) in cc
+    same_head = let both : Head f.being.h ≡ Head c.h = sym f.being.head ∙ (ap (λ (p : ℕ). page_of (now (Cell.Page p))) first ∙ c.head) in cc
 
     size : c.h.pages ≡ y.pages
     size = ap (λ (h : SpanHead). h.pages) (sym same_head) ∙ f.being.size
 
-    bit_in : (j : ℕ) → j < 64 → bit_at (now (cell.Alloc i)) j ≡ row_bit (alloc_words now) (64 * i + j)
+    bit_in : (j : ℕ) → j < 64 → bit_at (now (Cell.Alloc i)) j ≡ row_bit (alloc_words now) (64 * i + j)
     bit_in j low =
         let word : (64 * i + j) / 64 ≡ i = omega (arith, low) in
         let within : (64 * i + j) % 64 ≡ j = omega (arith, low) in
-        sym (known.rows.bit_of (alloc_words now) i (64 * i + j) word ∙ ap (λ (n : ℕ). bit_at (now (cell.Alloc i)) n) within)
+        sym (known.rows.bit_of (alloc_words now) i (64 * i + j) word ∙ ap (λ (n : ℕ). bit_at (now (Cell.Alloc i)) n) within)
 
-    no_bit : (j : ℕ) → j < 64 → bit_at (now (cell.Alloc i)) j ≡ 0
+    no_bit : (j : ℕ) → j < 64 → bit_at (now (Cell.Alloc i)) j ≡ 0
     no_bit j low =
         let from = c.from in
         let below = c.below in
         bit_in j low ∙ f.empty (64 * i + j) (omega (arith, from, first)) (omega (arith, below, size, first, low))
 
-  same_slot : (i : ℕ) → now (cell.Alloc i) ≢ 0 → s.slot i ≡ slot_row (page_words now) i
+  same_slot : (i : ℕ) → now (Cell.Alloc i) ≢ 0 → s.slot i ≡ slot_row (page_words now) i
   same_slot i some =
       let c = has.good.sweep.inside i some in
       has.good.sweep.slots i c ∙ sym (read setup.layout.pages (page_words now) i c (has.good.heap.whole c.p c.h c.head (kept i some c)))
 
   same_bytes : (i : ℕ) → placed_in (alloc_words now) s.slot i ≡ placed_in (alloc_words now) (slot_row (page_words now)) i
-  same_bytes i = elim (eqb_tells (now (cell.Alloc i)) 0) [
-    | inl y ↦ no_bytes (now (cell.Alloc i)) (s.slot i) y.1 ∙ sym (no_bytes (now (cell.Alloc i)) (slot_row (page_words now) i) y.1)
-    | inr n ↦ ap (λ (x : ℕ). count_ones (now (cell.Alloc i)) * x) (same_slot i n.1)
+  same_bytes i = elim (eqb_tells (now (Cell.Alloc i)) 0) [
+    | inl y ↦ no_bytes (now (Cell.Alloc i)) (s.slot i) y.1 ∙ sym (no_bytes (now (Cell.Alloc i)) (slot_row (page_words now) i) y.1)
+    | inr n ↦ ap (λ (x : ℕ). count_ones (now (Cell.Alloc i)) * x) (same_slot i n.1)
   ]
 
   -- What each seat has yet to count and to take off.
 
   others_count_none : (a : ℕ) → setup.layout.procs ≤ a → (x : Actor) → at a ≡ x → uncounted_at x ≡ 0
-  others_count_none a ge (actor.Runs m) is = absurd (let lt : a < setup.layout.procs = subst (IsSeated setup.layout a) is (seated setup es a) in omega (arith, lt, ge))
-  others_count_none a ge (actor.Marks w) is = refl
-  others_count_none a ge (actor.Leads c) is = refl
+  others_count_none a ge (Actor.Runs m) is = absurd (let lt : a < setup.layout.procs = subst (IsSeated setup.layout a) is (seated setup es a) in omega (arith, lt, ge))
+  others_count_none a ge (Actor.Marks w) is = refl
+  others_count_none a ge (Actor.Leads c) is = refl
 
   pend_is : (a : ℕ) → s.pend a ≡ uncounted_at (at a)
   pend_is a = elim (cases_lt a setup.layout.procs) [
@@ -112,15 +92,15 @@ module _ (setup : Setup) (known : Known) (read : SlotsAreRead) (es : List (Entry
   abbrev to_take : ℕ
   to_take = total (λ a. untaken_at (at a)) (seats_of setup.layout)
 
-  by_ghosts : now cell.Heap + sum_below s.pend (seats_of setup.layout) ≡ placed (alloc_words now) s.slot (16 * setup.layout.pages) + owed (λ d. d.cleared) s.due (seats_of setup.layout)
-  by_ghosts = subst (λ (k : Layout). now cell.Heap + sum_below s.pend (seats_of k) ≡ placed (alloc_words now) s.slot (16 * k.pages) + owed (λ d. d.cleared) s.due (seats_of k)) has.good.layout has.good.sweep.counted.heap
+  by_ghosts : now Cell.Heap + sum_below s.pend (seats_of setup.layout) ≡ placed (alloc_words now) s.slot (16 * setup.layout.pages) + owed (λ d. d.cleared) s.due (seats_of setup.layout)
+  by_ghosts = subst (λ (k : Layout). now Cell.Heap + sum_below s.pend (seats_of k) ≡ placed (alloc_words now) s.slot (16 * k.pages) + owed (λ d. d.cleared) s.due (seats_of k)) has.good.layout has.good.sweep.counted.heap
 
-  by_words : now cell.Heap + to_count ≡ placed (alloc_words now) (slot_row (page_words now)) (16 * setup.layout.pages) + to_take
+  by_words : now Cell.Heap + to_count ≡ placed (alloc_words now) (slot_row (page_words now)) (16 * setup.layout.pages) + to_take
   by_words =
       let placing : sum_below s.pend (seats_of setup.layout) ≡ to_count = sum_is_total s.pend (λ a. uncounted_at (at a)) (seats_of setup.layout) (λ a lt. pend_is a) in
       let taking : sum_below (λ a. (s.due a).cleared) (seats_of setup.layout) ≡ to_take = sum_is_total (λ a. (s.due a).cleared) (λ a. untaken_at (at a)) (seats_of setup.layout) due_is in
       let standing : placed (alloc_words now) s.slot (16 * setup.layout.pages) ≡ placed (alloc_words now) (slot_row (page_words now)) (16 * setup.layout.pages) = sum_same (placed_in (alloc_words now) s.slot) (placed_in (alloc_words now) (slot_row (page_words now))) (16 * setup.layout.pages) (λ i lt. same_bytes i) in
-      ap (λ (n : ℕ). now cell.Heap + n) (sym placing) ∙ (by_ghosts ∙ (ap (λ (n : ℕ). n + owed (λ d. d.cleared) s.due (seats_of setup.layout)) standing ∙ ap (λ (n : ℕ). placed (alloc_words now) (slot_row (page_words now)) (16 * setup.layout.pages) + n) taking))
+      ap (λ (n : ℕ). now Cell.Heap + n) (sym placing) ∙ (by_ghosts ∙ (ap (λ (n : ℕ). n + owed (λ d. d.cleared) s.due (seats_of setup.layout)) standing ∙ ap (λ (n : ℕ). placed (alloc_words now) (slot_row (page_words now)) (16 * setup.layout.pages) + n) taking))
 
   pub heap_bytes : HeapIsCounted setup es
   heap_bytes = grind (arith, by_words)

@@ -1,21 +1,13 @@
 -- A processor holds one span of each span class at the most: what it has cached stands by span class, and beside that it holds at most the span that it has just found, which is of the class that it looks for.
-use Rattle.std.proofs.Common.{◌≡◌, ◌≢◌, ◌⊎◌, inl, inr, ℕ, zero, suc, ◌+◌, ◌-◌, ◌/◌, ◌<◌, ◌≤◌, ◌==◌, ◌||◌, Bool, true, false, refl, sym, ap, subst, ◌∙◌, arith, List, [], ◌∷◌, length, drop, Option, Some, None}
-use Rattle.std.specs.Prelude.{slice_index_or, slice_set}
-use Rattle.std.proofs.lemmas.Bool.{cases_lt, eqb-true}
-use Rattle.gh_base.specs.declared.cell.Cell.TheVariants as cell
-use Rattle.gh_base.specs.declared.pack.PageWord.TheVariants.{Head}
-use Rattle.gh_base.specs.declared.pack.SpanHead.{SpanHead}
+use Rattle.std.proofs.Common.{◌≡◌, ◌≢◌, ◌⊎◌, inl, inr, ℕ, zero, suc, ◌+◌, ◌-◌, ◌/◌, ◌<◌, ◌≤◌, ◌==◌, ◌||◌, Bool, true, false, refl, sym, ap, subst, ◌∙◌, arith, List, [], ◌∷◌, length, drop, Option, Some, None, slice_index_or, slice_set}
+use Rattle.std.proofs.lemmas.Bool.{eqb-true}
+use Rattle.gh_law.proofs.Vocabulary.{Answer, Arena, arena, cache_with, cached_for, cached_in, CachesAll, CachesFrom, cases_lt, Cell, Entry, FactsAt, give_held_at, GiveStageFacts, HasState, Head, Heap, held_at, held_new, KnowsAt, KnowsNew, KnowsSpans, leave_held_at, LeaveStage, LeaveStageFacts, lists, Makes, NewFacts, NewStage, no_page, Op, own_span, owner_in, OwnersAreProcessors, OwnsOneOfEach, page_of, Placing, poll_held_at, PollFacts, Polling, PollStageFacts, Processor, processor_at, ProcessorFacts, rest, Rests, Searches, Seeking, Setup, SizeClass, span_index, SpanHead, Task, View, view, WaitFacts, waits_held, waits_held_at, WaitStage, WaitStageFacts, Wanted, words}
 use Rattle.gh_base.specs.Reading.{read_replicate}
-use Rattle.gh_class.specs.declared.class.SizeClass.{SizeClass}
-use Rattle.gh_class.specs.declared.class.SizeClass.TheVariants as size
 use Rattle.gh_class.specs.declared.class.SpanClass.{SpanClass}
 use Rattle.gh_class.specs.declared.class.TheConstants.{SPAN_CLASSES}
-use Rattle.gh_class.specs.Classes.{span_index}
-use Rattle.gh_heap.specs.Spans.{owner_in}
 use Rattle.gh_alloc.specs.declared.find.FindStage.{FindStage}
 use Rattle.gh_alloc.specs.declared.place.PlaceStage.{PlaceStage}
 use Rattle.gh_alloc.specs.declared.search.SearchStage.{SearchStage}
-use Rattle.gh_alloc.specs.declared.search.SearchStage.TheVariants as search_stage
 use Rattle.gh_alloc.specs.declared.sought.CachedSpan.{CachedSpan}
 use Rattle.gh_alloc.specs.declared.sought.Sought.{Sought}
 use Rattle.gh_alloc.specs.declared.sought.Sought.TheVariants.{Small, Large}
@@ -23,31 +15,12 @@ use Rattle.gh_alloc.specs.Find.{Finding}
 use Rattle.gh_alloc.specs.FindFacts as finding
 use Rattle.gh_alloc.specs.FindFacts.{cached_head, IsCached, own_found, with_span}
 use Rattle.gh_alloc.specs.FindSound.{IsSought}
-use Rattle.gh_alloc.specs.Place.{Placing}
 use Rattle.gh_alloc.specs.PlaceFacts as place
-use Rattle.gh_alloc.specs.Search.{Seeking}
 use Rattle.gh_alloc.specs.SearchFacts as search
 use Rattle.gh_poll.specs.declared.give.GiveStage.{GiveStage}
-use Rattle.gh_poll.specs.declared.give.GiveStage.TheVariants as give_stage
-use Rattle.gh_poll.specs.declared.leave.LeaveStage.{LeaveStage}
-use Rattle.gh_mutator.specs.declared.new.NewStage.TheVariants as new_stage
-use Rattle.gh_mutator.specs.declared.new.Wanted.{Wanted}
 use Rattle.gh_poll.specs.declared.poll.PollStage.{PollStage}
-use Rattle.gh_poll.specs.declared.poll.PollStage.TheVariants as poll_stage
-use Rattle.gh_mutator.specs.declared.task.Task.TheVariants as task
-use Rattle.gh_poll.specs.declared.wait.WaitStage.{WaitStage}
-use Rattle.gh_poll.specs.declared.wait.WaitStage.TheVariants as wait_stage
-use Rattle.gh_mutator_heap.specs.Facts.{FactsAt, held_at, held_new, KnowsAt, KnowsNew, Makes, NewFacts, rest, Searches}
 use Rattle.gh_poll.specs.Give.{Giving, none_cached, span_class}
-use Rattle.gh_poll.specs.Local.{cache_with, cached_in}
-use Rattle.gh_mutator.specs.New.{own_span}
-use Rattle.gh_poll.specs.Poll.{Polling}
-use Rattle.gh_mutator_heap.specs.PollHeap.{CachesAll, CachesFrom, give_held_at, GiveStageFacts, KnowsSpans, leave_held_at, LeaveStageFacts, lists, no_page, PollFacts, poll_held_at, PollStageFacts, Rests, WaitFacts, WaitStageFacts, waits_held, waits_held_at}
-use Rattle.gh_mutator.specs.Processor.{cached_for}
 use Rattle.gh_poll.specs.Wait.{Waiting, waiting}
-use Rattle.gh_holds.specs.Below.{HasState, OwnersAreProcessors, OwnsOneOfEach, processor_at}
-use Rattle.gh_law.proofs.Vocabulary.{Answer, Arena, arena, Entry, ProcessorFacts, Heap, NewStage, Op, page_of, Processor, Task, View, view, words}
-use Rattle.gh_lists.specs.Handshake.{Setup}
 
 -- What a cache lists.
 
@@ -99,8 +72,8 @@ of_number i lt = grind arith
 
 -- where the span of a span class begins, by what is cached; and that of a large object
 abbrev by_class : List (Option CachedSpan) → (large : Option ℕ) → SizeClass → Bool → Option ℕ
-by_class cache large (size.Small c) noscan = cached_head (cached_in cache (Small (record { class = c; noscan = noscan })))
-by_class cache large size.Large noscan = large
+by_class cache large (SizeClass.Small c) noscan = cached_head (cached_in cache (Small (record { class = c; noscan = noscan })))
+by_class cache large SizeClass.Large noscan = large
 
 -- one more, or one of the rest
 with_cases : (o : Option ℕ) (rest : ℕ → Bool) (p : ℕ) → with_span o rest p ≡ true → (o ≡ Some p) ⊎ (rest p ≡ true)
@@ -142,11 +115,11 @@ module _ (z : Arena) (a : ℕ) (v : View) where
   listed_own cache from long caches = record { at = by_class cache None; each = of_list cache None from long caches }
 
   give_own : (g : Giving) (s : GiveStage) → length g.cache ≡ SPAN_CLASSES → GiveStageFacts z a v g s → Owns (give_held_at g.cache s)
-  give_own g give_stage.Lock long f = listed_own g.cache 0 long f
-  give_own g (give_stage.GiveSpan class s) long f = listed_own g.cache class long f.caches
-  give_own g give_stage.Unlock long f = none
-  give_own g (give_stage.GiveBuffer b) long f = listed_own g.cache 0 long (from_none g.cache f.0)
-  give_own g give_stage.Ended long f = listed_own g.cache 0 long (from_none g.cache f.0)
+  give_own g GiveStage.Lock long f = listed_own g.cache 0 long f
+  give_own g (GiveStage.GiveSpan class s) long f = listed_own g.cache class long f.caches
+  give_own g GiveStage.Unlock long f = none
+  give_own g (GiveStage.GiveBuffer b) long f = listed_own g.cache 0 long (from_none g.cache f.0)
+  give_own g GiveStage.Ended long f = listed_own g.cache 0 long (from_none g.cache f.0)
 
   knows_own : (p : Polling) → length p.local.cache ≡ SPAN_CLASSES → KnowsSpans a v p → Owns (lists p.local.cache)
   knows_own p long k = listed_own p.local.cache 0 long (from_all p.local.cache k.caches)
@@ -155,10 +128,10 @@ module _ (z : Arena) (a : ℕ) (v : View) where
   rests_own p r = knows_own p r.stands.sits.cache r.knows
 
   poll_own : (p : Polling) (s : PollStage) → length p.local.cache ≡ SPAN_CLASSES → PollStageFacts z a v p s → Owns (poll_held_at p.local.cache s)
-  poll_own p (poll_stage.Giving g stops) long f = give_own g g.stage f.room f.stage_is
-  poll_own p (poll_stage.Resuming r) long f = listed_own p.local.cache 0 long (from_none p.local.cache f.no_span)
-  poll_own p (poll_stage.Marking g m) long f = knows_own p long f.0
-  poll_own p (poll_stage.FindRoom r) long f = knows_own p long f.0
+  poll_own p (PollStage.Giving g stops) long f = give_own g g.stage f.room f.stage_is
+  poll_own p (PollStage.Resuming r) long f = listed_own p.local.cache 0 long (from_none p.local.cache f.no_span)
+  poll_own p (PollStage.Marking g m) long f = knows_own p long f.0
+  poll_own p (PollStage.FindRoom r) long f = knows_own p long f.0
   poll_own p _ long f = knows_own p long f
 
   polls_own : (p : Polling) → PollFacts z a v p → Owns (poll_held_at p.local.cache p.stage)
@@ -181,12 +154,12 @@ module _ (z : Arena) (a : ℕ) (v : View) where
 
     module _ (sure : Bool) (f : Finding) (wanted : f.wanted ≡ w.sought) (cached : f.cached ≡ cached_for m w.sought) (facts : finding.Facts z a sure v (rest m w) f) where
       -- a large object's
-      of_own : (s : FindStage) (p : ℕ) (h : SpanHead) → finding.FactsAt z a sure v f s → finding.own s ≡ Some p → page_of (v.page p) ≡ Head h → h.class ≡ size.Large
+      of_own : (s : FindStage) (p : ℕ) (h : SpanHead) → finding.FactsAt z a sure v f s → finding.own s ≡ Some p → page_of (v.page p) ≡ Head h → h.class ≡ SizeClass.Large
       of_own s p h o is there = grind arith
 
       finds_own : Owns (finding.held f (rest m w))
       finds_own = record { at = by_class cache (finding.own f.stage); each = each } where
-        large : (p : ℕ) (h : SpanHead) → finding.own f.stage ≡ Some p → h.class ≡ size.Large → by_class cache (finding.own f.stage) h.class h.noscan ≡ Some p
+        large : (p : ℕ) (h : SpanHead) → finding.own f.stage ≡ Some p → h.class ≡ SizeClass.Large → by_class cache (finding.own f.stage) h.class h.noscan ≡ Some p
         large p h is class = ap (λ (c : SizeClass). by_class cache (finding.own f.stage) c h.noscan) class ∙ is
 
         each : (p : ℕ) (h : SpanHead) → finding.held f (rest m w) p ≡ true → page_of (v.page p) ≡ Head h → by_class cache (finding.own f.stage) h.class h.noscan ≡ Some p
@@ -201,9 +174,9 @@ module _ (z : Arena) (a : ℕ) (v : View) where
     searches_own : (q : Seeking) (pending : Option Answer) → Searches z a v m w q pending → Owns (search.held q.find q.stage (rest m w))
     searches_own q pending s = go q.stage s.facts where
       go : (p : SearchStage) → search.FactsAt z a v (rest m w) q.find p → Owns (search.held q.find p (rest m w))
-      go search_stage.First f = finds_own false q.find s.wanted s.cached f.facts
-      go (search_stage.Free r) f = record { at = by_class cache None; each = λ p h held there. of_rest w.sought None p h held there }
-      go search_stage.Second f = finds_own true q.find s.wanted s.cached f.facts
+      go SearchStage.First f = finds_own false q.find s.wanted s.cached f.facts
+      go (SearchStage.Free r) f = record { at = by_class cache None; each = λ p h held there. of_rest w.sought None p h held there }
+      go SearchStage.Second f = finds_own true q.find s.wanted s.cached f.facts
 
     -- In its slot.
 
@@ -216,7 +189,7 @@ module _ (z : Arena) (a : ℕ) (v : View) where
 
     makes_own : (x : Placing) (pending : Option Answer) → Makes z a v m w x pending → Owns (place.held_in x (with_span (own_found w.sought x.at) (lists cache)))
     makes_own x pending k = record { at = by_class cache (own_found w.sought x.at); each = each } where
-      large : (s : Sought) (p : ℕ) (h : SpanHead) → x.span ≡ own_span m.poll.seat m.poll.local.view.generation s → own_found s x.at ≡ Some p → place.held_in x (with_own x) p ≡ true → page_of (v.page p) ≡ Head h → h.class ≡ size.Large
+      large : (s : Sought) (p : ℕ) (h : SpanHead) → x.span ≡ own_span m.poll.seat m.poll.local.view.generation s → own_found s x.at ≡ Some p → place.held_in x (with_own x) p ≡ true → page_of (v.page p) ≡ Head h → h.class ≡ SizeClass.Large
       large s p h span is e there = grind arith
 
       each : (p : ℕ) (h : SpanHead) → place.held_in x (with_own x) p ≡ true → page_of (v.page p) ≡ Head h → by_class cache (own_found w.sought x.at) h.class h.noscan ≡ Some p
@@ -230,7 +203,7 @@ module _ (z : Arena) (a : ℕ) (v : View) where
   waits_own : (x : Waiting) → WaitFacts z a v x → Owns (waits_held x)
   waits_own x f = go x.wait.stage f where
     go : (s : WaitStage) → WaitStageFacts z a v x.poll s → Owns (waits_held_at x.poll s)
-    go wait_stage.Polling f = polls_own x.poll f
+    go WaitStage.Polling f = polls_own x.poll f
     go _ f = rests_own x.poll f
 
   leaves_own : (s : LeaveStage) → LeaveStageFacts z a v s → Owns (leave_held_at s)
@@ -238,18 +211,18 @@ module _ (z : Arena) (a : ℕ) (v : View) where
 
   module _ (m : Processor) (pending : Option Answer) where
     new_own : (w : Wanted) (s : NewStage) → KnowsNew z a v m.poll s → NewFacts z a v m w pending s → Owns (held_new m w s)
-    new_own w (new_stage.Search waited q) k f = searches_own m w k q pending f
-    new_own w (new_stage.Wait x) k f = waits_own (waiting x m.poll) k
-    new_own w (new_stage.Place x) k f = makes_own m w k x pending f
-    new_own w (new_stage.Want n) k f = rests_own m.poll k
-    new_own w (new_stage.Assist n x) k f = rests_own m.poll k
+    new_own w (NewStage.Search waited q) k f = searches_own m w k q pending f
+    new_own w (NewStage.Wait x) k f = waits_own (waiting x m.poll) k
+    new_own w (NewStage.Place x) k f = makes_own m w k x pending f
+    new_own w (NewStage.Want n) k f = rests_own m.poll k
+    new_own w (NewStage.Assist n x) k f = rests_own m.poll k
 
     task_own : (t : Task) → KnowsAt z a v m.poll t → FactsAt z a v m pending t → Owns (held_at m t)
-    task_own task.Left k f = none
-    task_own (task.New x) k f = new_own x.wanted x.stage k f
-    task_own (task.Gc g x) k f = waits_own (waiting x m.poll) k
-    task_own task.Poll k f = polls_own m.poll k
-    task_own (task.Leave x) k f = leaves_own x.stage k.stage_is
+    task_own Task.Left k f = none
+    task_own (Task.New x) k f = new_own x.wanted x.stage k f
+    task_own (Task.Gc g x) k f = waits_own (waiting x m.poll) k
+    task_own Task.Poll k f = polls_own m.poll k
+    task_own (Task.Leave x) k f = leaves_own x.stage k.stage_is
     task_own _ k f = rests_own m.poll k
 
   pub held_by_class : (m : Processor) (pending : Option Answer) → ProcessorFacts z a v m pending → Owns (v.holds a)
@@ -266,7 +239,7 @@ module _ (setup : Setup) (es : List (Entry Op)) (has : HasState setup es) where
   h = has.state.heap
 
   -- who owns a span holds it
-  holder : (p a : ℕ) (k : SpanHead) → page_of (h.words (cell.Page p)) ≡ Head k → k.owner ≡ a + 1 → h.holds a p ≡ true
+  holder : (p a : ℕ) (k : SpanHead) → page_of (h.words (Cell.Page p)) ≡ Head k → k.owner ≡ a + 1 → h.holds a p ≡ true
   holder p a k there owner = (has.good.heap.owners a p).0 (ap owner_in there ∙ owner)
 
   is_processor : (p a : ℕ) → h.holds a p ≡ true → a < setup.layout.procs

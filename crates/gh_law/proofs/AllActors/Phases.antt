@@ -1,30 +1,14 @@
 -- What the handshake of a stop says of phases, by the actors at their seats; and that nobody marks while no cycle is marked: processors and workers are calm then, and the coordinator sets no mark and writes no buffer.
 use Rattle.std.proofs.Common.{◌≡◌, ◌≢◌, ◌⊎◌, inl, inr, ℕ, ◌+◌, ◌<◌, true, false, refl, sym, ap, subst, ◌∙◌, arith, List, [], ◌∷◌, ◌++◌, Option, Some, None}
-use Rattle.std.proofs.lemmas.Bool.Decides.{nat_tests}
-use Rattle.gh_base.specs.declared.cell.Cell.TheVariants as cell
-use Rattle.gh_phase.specs.declared.view.RunPhase.TheVariants.{Finished}
+use Rattle.gh_law.proofs.Vocabulary.{acks_of, AcksAlone, Actor, actors_after, Answer, answers_of, Arena, arena, Ask, asks_at, asks_by_sweep, Begins, Cell, Check, Close, CloseStage, ClosingIsBusy, Coordinating, CoordStage, Count, Done, EndsInOrder, Entry, FactsAt, FindsTheStop, Finished, given_of, goes_then, HasState, Holds, HoldsAt, idle_sweeps_none, is_busy_at, IsClosing, IsInSweep, IsLed, IsMarkingStep, IsQuiet, IsSeated, IsStartOf, IsStopped, IsTelling, KeepsIt, Kind, last_phase, Layout, Legal, legal_start, ListsKnown, LoadAck, LoadWant, MarkOn, MarksInPhase, nat_tests, NobodyMarks, only_polls, Op, Open, opening_words, option_to_list, PhasesAreKnown, PhasesStand, place_of, Processor, processor_at, processor_kind, Resumes, ResumeStage, run_is, seated, Setup, SoundPlace, stage_of, StandsEmpty, StandsStill, started, Stop, StopAgain, Sweep, sweep_of, Sweeping, SweepStage, Task, Tell, TellStage, those, View, view, Watch, Words, words, Working, WritesOf}
 use Rattle.gh_sweep.specs.Listing as sweep
-use Rattle.gh_sweep.specs.Listing.{Sweeping}
-use Rattle.gh_coord.specs.declared.close.CloseStage.TheVariants as close_stage
-use Rattle.gh_coord.specs.declared.tell.TellStage.TheVariants as tell_stage
 use Rattle.gh_coord.specs.Closing as close
 use Rattle.gh_coord.specs.Handshake as leading
-use Rattle.gh_mutator_writes.specs.Calm.{IsWrittenCalmly}
-use Rattle.gh_mutator_heap.specs.Facts.{FactsAt}
+use Rattle.gh_mutator_writes.specs.Calm.{IsWrittenCalmly, IsCalm as MarksNothing}
 use Rattle.gh_mutator.specs.Sweeping.{sweep_in}
-use Rattle.gh_worker.specs.Writing.{AcksAlone}
-use Rattle.gh_lists.specs.declared.handshake.Actor.TheVariants as actor
 use Rattle.gh_lists.specs.Handshake as handshake
-use Rattle.gh_law.specs.Phases.{EndsInOrder, FindsTheStop, IsMarkingStep, IsStopped, MarksInPhase, PhasesAreKnown, PhasesStand, StandsEmpty, StandsStill}
-use Rattle.gh_holds.specs.Below.{calm_now, IsInSweep, ListsKnown, sweep_of}
-use Rattle.gh_law.proofs.Vocabulary.{answers_of, given_of, opening_words, View, acks_of, Actor, actors_after, Answer, Arena, arena, Ask, asks_at, Begins, Check, Close, CloseStage, Coordinating, CoordStage, Count, Done, Entry, HasState, Holds, HoldsAt, is_busy_at, IsClosing, IsLed, IsQuiet, IsStartOf, IsTelling, KeepsIt, Kind, last_phase, Layout, Legal, LoadAck, LoadWant, MarkOn, MarksNothing, NobodyMarks, only_polls, Op, Open, option_to_list, place_of, Processor, processor_at, processor_kind, Resumes, ResumeStage, SoundPlace, stage_of, started, Stop, StopAgain, Sweep, SweepStage, Task, Tell, TellStage, those, view, Watch, words, Words, Working, WritesOf}
-use Rattle.gh_lists.specs.Going.{ClosingIsBusy, goes_then}
-use Rattle.gh_lists.specs.Sweeping.{idle_sweeps_none, asks_by_sweep}
-use Rattle.gh_lists.specs.Resting.{run_is}
-use Rattle.gh_lists.specs.Starts.{legal_start}
-use Rattle.gh_lists.specs.Seats.{IsSeated, seated}
+use Rattle.gh_holds.specs.Below.{calm_now}
 use Rattle.gh_lists.specs.Steps as seats
-use Rattle.gh_lists.specs.Handshake.{Setup}
 
 -- Who goes on after a stop stands empty.
 
@@ -76,17 +60,17 @@ module _ (setup : Setup) (lists : ListsKnown setup) where
       nobody : NobodyMarks setup es cycle has.state.heap.words
 
     told_quiet : (p : TellStage) → IsTelling setup es c p → IsQuiet setup es c
-    told_quiet tell_stage.Ended h = absurd h
-    told_quiet tell_stage.StoreTrigger h = h.quiet
-    told_quiet tell_stage.StoreSwept h = h.quiet
-    told_quiet tell_stage.StorePhase h = h.quiet
+    told_quiet TellStage.Ended h = absurd h
+    told_quiet TellStage.StoreTrigger h = h.quiet
+    told_quiet TellStage.StoreSwept h = h.quiet
+    told_quiet TellStage.StorePhase h = h.quiet
 
     quiet_then : (p : CoordStage) → (leading.Marks p → ⊥) → IsQuiet setup es c → NobodyThen p
     quiet_then p off q = record { off = off; has = q.has; cycle = c.begun + 1; nobody = q.nobody }
 
     closing_nobody : (y : close.Closing) (p : CloseStage) → y.stage ≡ p → close.is_busy p ≡ true → IsClosing setup es c p → leading.Marks (Close y) ⊎ NobodyThen (Close y)
-    closing_nobody y close_stage.StorePhase at going h = inr (record { off = λ on. absurd (let no : false ≡ true = sym (ap close.is_marking at) ∙ on in cc); has = h.has; cycle = c.begun + 1; nobody = h.nobody })
-    closing_nobody y close_stage.Ended at going h = absurd h
+    closing_nobody y CloseStage.StorePhase at going h = inr (record { off = λ on. absurd (let no : false ≡ true = sym (ap close.is_marking at) ∙ on in cc); has = h.has; cycle = c.begun + 1; nobody = h.nobody })
+    closing_nobody y CloseStage.Ended at going h = absurd h
     closing_nobody y _ at going h = inl (ap close.is_marking at)
 
     marks_or_nobody : (p : CoordStage) → ClosingIsBusy p → HoldsAt setup es c p → leading.Marks p ⊎ NobodyThen p
@@ -105,16 +89,16 @@ module _ (setup : Setup) (lists : ListsKnown setup) where
     marks_or_nobody Done going h = inr (quiet_then Done (λ x. x) h.quiet)
 
     -- where none is marked no buffer has an entry, and nobody holds one
-    all_empty : Led es c → HoldsAt setup es c c.stage → (leading.Marks c.stage → ⊥) → (b : ℕ) → words setup es (cell.Buffer b) ≡ 0
+    all_empty : Led es c → HoldsAt setup es c c.stage → (leading.Marks c.stage → ⊥) → (b : ℕ) → words setup es (Cell.Buffer b) ≡ 0
     all_empty led h off b = elim (marks_or_nobody c.stage (goes_then setup es c led) h) [
       | inl on ↦ absurd (off on)
-      | inr x ↦ sym (ap (λ (w : Words). w (cell.Buffer b)) x.has.of_list.words_are) ∙ x.nobody.buffers b
+      | inr x ↦ sym (ap (λ (w : Words). w (Cell.Buffer b)) x.has.of_list.words_are) ∙ x.nobody.buffers b
     ]
 
   -- An entry behind a list.
   module _ (e : Entry Op) (es : List (Entry Op)) (legal : Lawful (e ∷ es)) (c : Coordinating) (led : Led es c) where
     module _ (has : HasState setup es) where
-      idle : (m : Processor) → at es e.actor ≡ actor.Runs m → (o : Option Op) → Begins (those setup) e.actor es o → (p : Op) → o ≡ Some p → is_busy_at m.task ≡ false
+      idle : (m : Processor) → at es e.actor ≡ Actor.Runs m → (o : Option Op) → Begins (those setup) e.actor es o → (p : Op) → o ≡ Some p → is_busy_at m.task ≡ false
       idle m is o b p same = grind arith
 
       -- what a processor sweeps, before it begins an operation and then
@@ -169,19 +153,19 @@ module _ (setup : Setup) (lists : ListsKnown setup) where
     keeps : KeepsIt (those setup) es
     keeps = lists.keeps es legal
 
-    runs_below : (a : ℕ) (m : Processor) → at es a ≡ actor.Runs m → a < acks_of setup.layout
+    runs_below : (a : ℕ) (m : Processor) → at es a ≡ Actor.Runs m → a < acks_of setup.layout
     runs_below a m is = let lt : a < setup.layout.procs = subst (IsSeated setup.layout a) is (seated setup es a) in omega (arith, lt)
 
-    works_below : (a : ℕ) (w : Working) → at es a ≡ actor.Marks w → a < acks_of setup.layout
+    works_below : (a : ℕ) (w : Working) → at es a ≡ Actor.Marks w → a < acks_of setup.layout
     works_below a w is = seats.worker_seat setup es a w is
 
     sound_at : (a : ℕ) (x : Actor) → a < acks_of setup.layout → at es a ≡ x → handshake.Sound setup.layout x
     sound_at a x lt is = subst (handshake.Sound setup.layout) is (keeps.shakes.all_sound a (omega (arith, lt)))
 
-    empty : (a : ℕ) (m : Processor) (stops : ℕ) (stage : ResumeStage) → at es a ≡ actor.Runs m → stage_of m ≡ Resumes stops stage → StandsEmpty m
-    empty a m stops stage is y = stands_empty m stops stage y (sound_at a (actor.Runs m) (runs_below a m is) is).place
+    empty : (a : ℕ) (m : Processor) (stops : ℕ) (stage : ResumeStage) → at es a ≡ Actor.Runs m → stage_of m ≡ Resumes stops stage → StandsEmpty m
+    empty a m stops stage is y = stands_empty m stops stage y (sound_at a (Actor.Runs m) (runs_below a m is) is).place
 
-    answered : HasState setup es → (a : ℕ) (m : Processor) (stops : ℕ) (stage : ResumeStage) → at es a ≡ actor.Runs m → stage_of m ≡ Resumes stops stage → answers_of z (opening_words setup.pacing.trigger) a es ≡ given_of z (opening_words setup.pacing.trigger) a es
+    answered : HasState setup es → (a : ℕ) (m : Processor) (stops : ℕ) (stage : ResumeStage) → at es a ≡ Actor.Runs m → stage_of m ≡ Resumes stops stage → answers_of z (opening_words setup.pacing.trigger) a es ≡ given_of z (opening_words setup.pacing.trigger) a es
     answered has a m stops stage is y =
         let lt : a < setup.layout.procs = subst (IsSeated setup.layout a) is (seated setup es a) in
         let x = has.of_list.processors a lt in
@@ -195,7 +179,7 @@ module _ (setup : Setup) (lists : ListsKnown setup) where
       workers = λ a w is. keeps.workers_know a w (works_below a w is) is;
       resuming = empty;
       answered = answered has;
-      workers_resuming = λ a w stops stage is y. (lists.known.workers_places.rests w stops stage (sound_at a (actor.Marks w) (works_below a w is) is) y).calm.none;
+      workers_resuming = λ a w stops stage is y. (lists.known.workers_places.rests w stops stage (sound_at a (Actor.Marks w) (works_below a w is) is) y).calm.none;
     }
 
     marks_in_phase : (c : Coordinating) → Led es c → MarksInPhase setup es c

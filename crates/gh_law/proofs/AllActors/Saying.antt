@@ -1,28 +1,10 @@
 -- What every list says, by what holds after it: outside of marking by the coordinator's stage, and while a cycle is marked by what is known of the heap.
 use Rattle.std.proofs.Common.{◌≡◌, ℕ, sym, ap, ◌∙◌, List, arith}
-use Rattle.gh_base.specs.declared.cell.Cell.{Cell}
-use Rattle.gh_base.specs.declared.cell.Cell.TheVariants as cell
-use Rattle.gh_base.specs.Cells.{Words}
-use Rattle.gh_coord.specs.declared.coord.CoordStage.{CoordStage}
-use Rattle.gh_coord.specs.declared.coord.CoordStage.TheVariants.{Done, Tell}
-use Rattle.gh_coord.specs.declared.tell.TellStage.{TellStage}
-use Rattle.gh_coord.specs.declared.tell.TellStage.TheVariants as telling
-use Rattle.gh_law.specs.Actors.{AllStands, AllWereOpened, Awaits, StepsWithin}
-use Rattle.gh_holds.specs.EveryList.{HoldsAfter}
+use Rattle.gh_law.proofs.Vocabulary.{AllStands, AllWereAsked, AllWereOpened, AnswersAsEver, Arena, arena, Awaits, Cell, Coordinating, CoordStage, Done, Entry, HasState, HeapIsCounted, HoldsAfter, HoldsAt, IsAsItShould, IsLed, IsTelling, ListsKnown, ListStands, named, Op, opening_words, PhasesStand, processor_at, ScansOnce, Setup, SpansStand, stand_apart, stands_for, StepsWithin, SweepsStand, Tell, TellStage, those, view, Words, words}
 use Rattle.gh_holds.specs.Objects.{CountsAreSaid, IsTold}
 use Rattle.gh_holds.specs.ActorsHold as hold
-use Rattle.gh_holds.specs.ActorsHold.{HoldsAt, IsTelling}
-use Rattle.gh_holds.specs.Below.{HasState, HeapIsCounted, IsAsItShould, ListsKnown, processor_at, SpansStand}
-use Rattle.gh_law.specs.Asked.{AllWereAsked}
 use Rattle.gh_lists.specs.Counts.{CountsPlainly}
-use Rattle.gh_lists.specs.Handshake.{those, Setup}
-use Rattle.gh_law.proofs.Vocabulary.{arena, Arena, Coordinating, Entry, IsLed, Op, opening_words, view, words}
-use Rattle.gh_law.specs.Phases.{PhasesStand}
-use Rattle.gh_lists.specs.Processors.{AnswersAsEver, ListStands}
-use Rattle.gh_law.specs.Scans.{ScansOnce}
-use Rattle.gh_law.specs.SweepMarks.{SweepsStand}
 use Rattle.gh_law.proofs.AllActors.Pending.{none_unacted}
-use Rattle.gh_holds.specs.Standing.{named, stand_apart, stands_for}
 
 -- What is shown of a list beside what holds after it.
 pub record Shown (setup : Setup) (es : List (Entry Op)) : Type 0 where
@@ -64,19 +46,19 @@ module _ (setup : Setup) (es : List (Entry Op)) (lists : ListsKnown setup) (now 
     }
 
     -- what the words of the counts say where a cycle is told
-    live_so : hold.IsTold setup es c → words setup es cell.Live ≡ c.live
+    live_so : hold.IsTold setup es c → words setup es Cell.Live ≡ c.live
     live_so k =
         let there = k.quiet.has.state in
         let all_told = lists.known.swept z there k.quiet.has.good k.quiet.over (lists.known.walkers.all z there k.quiet.has.good k.quiet.passed) in
-        ap (λ (w : Words). w cell.Live) (sym k.quiet.has.of_list.words_are) ∙ all_told.live ∙ sym k.live
+        ap (λ (w : Words). w Cell.Live) (sym k.quiet.has.of_list.words_are) ∙ all_told.live ∙ sym k.live
 
-    live_told : (p : TellStage) → IsTelling setup es c p → words setup es cell.Live ≡ c.live
-    live_told telling.StoreTrigger h = live_so h
-    live_told telling.StoreSwept h = live_so h
-    live_told telling.StorePhase h = live_so h
-    live_told telling.Ended h = absurd h
+    live_told : (p : TellStage) → IsTelling setup es c p → words setup es Cell.Live ≡ c.live
+    live_told TellStage.StoreTrigger h = live_so h
+    live_told TellStage.StoreSwept h = live_so h
+    live_told TellStage.StorePhase h = live_so h
+    live_told TellStage.Ended h = absurd h
 
-    live_said : (p : CoordStage) → HoldsAt setup es c p → IsTold setup p → words setup es cell.Live ≡ c.live
+    live_said : (p : CoordStage) → HoldsAt setup es c p → IsTold setup p → words setup es Cell.Live ≡ c.live
     live_said (Tell t) h told = live_told t.stage h
     live_said Done h told = live_so h
     live_said _ h told = absurd told

@@ -1,24 +1,16 @@
 -- A stack is scanned at most once in a cycle. Only a processor writes the number of a cycle into a stack's word, that of the cycle which has begun last, where it has noted another number of the stack; and its notes are the words. From a scan on the word is this number, that of an end, or a later one: so a second scan in the cycle would find it.
 use Rattle.std.proofs.Common.{◌≡◌, ◌≢◌, ◌⊎◌, inl, inr, ℕ, suc, ◌%◌, ◌<◌, ◌≤◌, Bool, true, cond, refl, sym, ap, subst, ◌∙◌, arith, List, [], ◌∷◌, slice_index, Option, Some, None, eq-eqb}
-use Rattle.gh_base.specs.declared.cell.Cell.TheVariants as cell
+use Rattle.gh_law.proofs.Vocabulary.{acts, Arena, arena, Ask, asks, awake_at, Cell, Coordinating, deeds, effect, EndsStack, Entry, Ever, ever, HasState, Heap, IsAsItShould, IsAwake, IsLed, IsStartOf, IsWritten, Kind, knows_at, Legal, legal_start, ListsKnown, nat_tests, Op, Party, party_of, Processor, processor_at, processor_kind, run_is, ScansIn, ScansOnce, SeatFacts, Setup, stage_of, started, StaysThere, Store, takes, TellsScan, those, view, Words, words, WritesOf}
 use Rattle.gh_base.specs.Orders.{before_step}
 use Rattle.gh_coord.specs.Handshake as leading
 use Rattle.gh_coord.specs.Listing as coord
-use Rattle.gh_mutator_heap.specs.PollHeap.{SeatFacts}
-use Rattle.gh_mutator_writes.specs.Writing.{EndsStack, StaysThere}
 use Rattle.gh_worker.specs.Listing as worker
-use Rattle.gh_lists.specs.Marking.{IsStartOf}
-use Rattle.gh_law.specs.Scans.{ScansIn, ScansOnce}
-use Rattle.gh_law.proofs.Vocabulary.{acts, Arena, arena, Ask, asks, Coordinating, deeds, effect, END, Entry, Ever, ever, HasState, Heap, IsAsItShould, IsAwake, IsLed, IsWritten, Kind, Legal, nat_tests, Op, Party, party_of, Processor, processor_at, processor_kind, stage_of, started, Store, takes, TellsScan, those, view, Words, words, WritesOf}
+use Rattle.gh_base.specs.declared.pack.TheConstants.{END}
 use Rattle.gh_phase.specs.declared.view.View.{View}
-use Rattle.gh_holds.specs.Below.{acted_stays, ListsKnown}
-use Rattle.gh_lists.specs.Resting.{run_is}
-use Rattle.gh_lists.specs.Starts.{legal_start}
+use Rattle.gh_holds.specs.Below.{acted_stays}
 use Rattle.gh_lists.specs.Steps as seats
 use Rattle.gh_lists.specs.Awake.{knows_begun, was_awake}
 use Rattle.gh_lists.specs.Aside.{aside as lead_aside}
-use Rattle.gh_lists.specs.Writing.{awake_at, knows_at}
-use Rattle.gh_lists.specs.Handshake.{Setup}
 
 module _ (setup : Setup) (lists : ListsKnown setup) (has : (es : List (Entry Op)) → Legal (those setup) es → HasState setup es) where
   abbrev kind : Kind Processor Op
@@ -40,13 +32,13 @@ module _ (setup : Setup) (lists : ListsKnown setup) (has : (es : List (Entry Op)
   ended_on e es g is = ap (λ (x : Ever). x.ended g) ((lists.known.points setup.shapes setup.layout).follows es e) ∙ acted_stays setup.layout setup.shapes (before_step kind (deeds setup.layout setup.shapes) es e) e.found (ever setup es) g (acts setup.layout (before_step kind (deeds setup.layout setup.shapes) es e) e.found) is
 
   -- a stack whose goroutine has ended says so still
-  over_on : (e : Entry Op) (es : List (Entry Op)) (g : ℕ) → Lawful (e ∷ es) → told es (cell.Scanned g) ≡ END → told (e ∷ es) (cell.Scanned g) ≡ END
+  over_on : (e : Entry Op) (es : List (Entry Op)) (g : ℕ) → Lawful (e ∷ es) → told es (Cell.Scanned g) ≡ END → told (e ∷ es) (Cell.Scanned g) ≡ END
   over_on e es g legal is =
       let here = (has es legal.0).of_list in
       let then = (has (e ∷ es) legal).of_list in
-      let over = (here.stacks g).0 (ap (λ (w : Words). w (cell.Scanned g)) here.words_are ∙ is) in
+      let over = (here.stacks g).0 (ap (λ (w : Words). w (Cell.Scanned g)) here.words_are ∙ is) in
       let over_then = ended_on e es g (ap (λ (x : Ever). x.ended g) (sym here.ever_is) ∙ over) in
-      sym (ap (λ (w : Words). w (cell.Scanned g)) then.words_are) ∙ (then.stacks g).1 (ap (λ (x : Ever). x.ended g) then.ever_is ∙ over_then)
+      sym (ap (λ (w : Words). w (Cell.Scanned g)) then.words_are) ∙ (then.stacks g).1 (ap (λ (x : Ever). x.ended g) then.ever_is ∙ over_then)
 
   -- An entry that scans a stack.
   module _ (e : Entry Op) (es : List (Entry Op)) (legal : Lawful (e ∷ es)) (k g : ℕ) (scans : ScansIn k g e) where
@@ -64,15 +56,15 @@ module _ (setup : Setup) (lists : ListsKnown setup) (has : (es : List (Entry Op)
 
     no_lead : (c : coord.Coordinating) → seats.LeadsIt setup e es c → ⊥
     no_lead c x =
-        let left : effect others (Store (cell.Scanned g) k) (cell.Scanned g) ≡ suc k = subst (λ (q : Ask). effect others q (cell.Scanned g) ≡ suc k) (sym x.asked ∙ scans.0) ((lead_aside others setup.layout c c.stage x.sound_it.1).scanned g) in
-        let stored : effect others (Store (cell.Scanned g) k) (cell.Scanned g) ≡ k = ap (λ (b : Bool). cond b k (suc k)) (eq-eqb g g refl) in
+        let left : effect others (Store (Cell.Scanned g) k) (Cell.Scanned g) ≡ suc k = subst (λ (q : Ask). effect others q (Cell.Scanned g) ≡ suc k) (sym x.asked ∙ scans.0) ((lead_aside others setup.layout c c.stage x.sound_it.1).scanned g) in
+        let stored : effect others (Store (Cell.Scanned g) k) (Cell.Scanned g) ≡ k = ap (λ (b : Bool). cond b k (suc k)) (eq-eqb g g refl) in
         let no : k ≡ suc k = sym stored ∙ left in
         absurd (omega (arith, no))
 
     by_processor : IsByProcessor
     by_processor = by (seats.step setup e es lists.known.writes legal (lists.keeps es legal.0)) where
       tells : (m : Processor) → seats.RunsIt setup e es m → EndsStack setup.layout (started kind e.begun m) g ⊎ TellsScan setup.layout (started kind e.begun m) g → TellsScan setup.layout (started kind e.begun m) g
-      tells m x (inl ends) = absurd (scans.1 (let same : Store (cell.Scanned g) k ≡ Store (cell.Scanned g) END = sym scans.0 ∙ (x.asked ∙ ends.tells) in cc))
+      tells m x (inl ends) = absurd (scans.1 (let same : Store (Cell.Scanned g) k ≡ Store (Cell.Scanned g) END = sym scans.0 ∙ (x.asked ∙ ends.tells) in cc))
       tells m x (inr y) = y
 
       by : seats.Step setup e es → IsByProcessor
@@ -92,7 +84,7 @@ module _ (setup : Setup) (lists : ListsKnown setup) (has : (es : List (Entry Op)
     abbrev tells : TellsScan setup.layout (started kind e.begun by_processor.m) g
     tells = by_processor.tells
 
-    asked : asks setup.layout now ≡ Store (cell.Scanned g) k
+    asked : asks setup.layout now ≡ Store (Cell.Scanned g) k
     asked = sym runs.asked ∙ scans.0
 
     number : k ≡ now.poll.local.view.begun
@@ -105,7 +97,7 @@ module _ (setup : Setup) (lists : ListsKnown setup) (has : (es : List (Entry Op)
     view_is : (party_of now).view ≡ now.poll.local.view
     view_is = knows_at setup.layout now g k now.task (sym asked)
 
-    pub of_last : told es cell.Begun ≡ k
+    pub of_last : told es Cell.Begun ≡ k
     of_last = sym (number ∙ (ap (λ (v : View). v.begun) (sym view_is) ∙ knows_begun setup lists.known.places lists.known.writes lists.keeps e.actor m e.begun es legal.0 runs.seat runs.is runs.sound_it legal.1.begins awake))
 
     was : (party_of now ≡ party_of m) × IsAwake (stage_of m)
@@ -143,20 +135,20 @@ module _ (setup : Setup) (lists : ListsKnown setup) (has : (es : List (Entry Op)
     is_there : g < setup.layout.goroutines
     is_there = grind arith
 
-    note : slice_index now.poll.local.scanned g ≡ told es (cell.Scanned g)
+    note : slice_index now.poll.local.scanned g ≡ told es (Cell.Scanned g)
     note = grind (arith, by_its_own, is_there, it_is, notes_stay, same)
 
-    other_noted : told es (cell.Scanned g) ≢ k
+    other_noted : told es (Cell.Scanned g) ≢ k
     other_noted is = tells.unscanned (λ x. scans.1 (number ∙ x)) (note ∙ (is ∙ number))
 
-    pub then_is : told (e ∷ es) (cell.Scanned g) ≡ k
-    then_is = ap (λ (q : Ask). effect (told es) q (cell.Scanned g)) scans.0 ∙ ap (λ (b : Bool). cond b k (told es (cell.Scanned g))) (eq-eqb g g refl)
+    pub then_is : told (e ∷ es) (Cell.Scanned g) ≡ k
+    then_is = ap (λ (q : Ask). effect (told es) q (Cell.Scanned g)) scans.0 ∙ ap (λ (b : Bool). cond b k (told es (Cell.Scanned g))) (eq-eqb g g refl)
 
-    not_over : told es (cell.Scanned g) ≢ END
+    not_over : told es (Cell.Scanned g) ≢ END
     not_over is = scans.1 (sym then_is ∙ over_on e es g legal is)
 
     -- so before it the stack was scanned in a cycle before, if at all
-    pub scanned_before : told es (cell.Scanned g) < k
+    pub scanned_before : told es (Cell.Scanned g) < k
     scanned_before = elim (lists.numbers es legal.0 g) [
       | inl over ↦ absurd (not_over over)
       | inr below ↦ (let last = of_last in let other = other_noted in grind (arith, nat_tests, last, below, other))
@@ -164,11 +156,11 @@ module _ (setup : Setup) (lists : ListsKnown setup) (has : (es : List (Entry Op)
 
   -- From a scan on no cycle before it has begun last, and the word is the number of an end, or none before that of the scan.
   record IsSince (k g : ℕ) (es : List (Entry Op)) : Type 0 where
-    begun : k ≤ told es cell.Begun
-    word : (told es (cell.Scanned g) ≡ END) ⊎ (k ≤ told es (cell.Scanned g))
+    begun : k ≤ told es Cell.Begun
+    word : (told es (Cell.Scanned g) ≡ END) ⊎ (k ≤ told es (Cell.Scanned g))
 
   module _ (e : Entry Op) (es : List (Entry Op)) (legal : Lawful (e ∷ es)) where
-    rises : told es cell.Begun ≤ told (e ∷ es) cell.Begun
+    rises : told es Cell.Begun ≤ told (e ∷ es) Cell.Begun
     rises = (lists.rises e es legal).begun
 
     since_on : (k g : ℕ) → IsSince k g es → IsSince k g (e ∷ es)

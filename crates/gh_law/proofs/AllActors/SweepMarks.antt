@@ -1,34 +1,16 @@
 -- What the one state says of the numbers of spans, and of marks while no cycle is marked: of each word of bits it says whether a sweep has cut it and cleared its marks.
-use Rattle.std.proofs.Common.{◌≡◌, ◌⊎◌, inl, inr, ℕ, ◌+◌, ◌-◌, ◌*◌, ◌/◌, ◌<◌, ◌≤◌, ◌==◌, Bool, true, false, cond, ltb, refl, sym, ap, subst, ◌∙◌, arith, List, [], ◌∷◌, Option, Some, None}
-use Rattle.std.proofs.lemmas.Bool.Decides.{nat_tests}
-use Rattle.std.proofs.lemmas.Nat.Bits.{bit_at-zero}
-use Rattle.std.specs.Int.{bit_at}
-use Rattle.gh_base.specs.declared.cell.Cell.TheVariants as cell
-use Rattle.gh_base.specs.declared.pack.SpanHead.{SpanHead}
-use Rattle.gh_heap.specs.Spans.{owner_in}
-use Rattle.gh_sweep.specs.Listing.{bit_words, Sweeping}
+use Rattle.std.proofs.Common.{◌≡◌, ◌⊎◌, inl, inr, ℕ, ◌+◌, ◌-◌, ◌*◌, ◌/◌, ◌<◌, ◌≤◌, ◌==◌, Bool, true, false, cond, ltb, refl, sym, ap, subst, ◌∙◌, arith, List, [], ◌∷◌, Option, Some, None, ◌%◌}
+use Rattle.gh_law.proofs.Vocabulary.{Actor, actors_after, alloc_words, Arena, arena, bit_at, bit_at-zero, CachedAreSwept, Cell, Check, Close, CloseStage, ClosingIsBusy, Coordinating, CoordStage, Count, CycleEnd, EachSpanIsSwept, Entry, ever, Far, generation_at, goes_then, HasState, Head, HoldsAt, InSpan, IsBeginning, IsClosing, IsInLimits, IsInSweep, IsLed, IsMarking, IsNumbered, IsRunning, IsTelling, IsUncut, IsUnderWay, Known, KnowsAt, Legal, mark_words, MarkOn, marks_at, marks_in, MarksAreLeft, Name, nat_tests, once, Op, Open, other, OwnedAreSwept, owner_in, page_of, page_words, PageWord, Polling, processor_at, Reach, Rests, Row, row_bit, SaysFar, SaysHowFar, seats_of, seen_by_sweep, Setup, SpanHead, SpansAreNumbered, State, StopAgain, Sweep, sweep_of, sweep_over, Sweeping, SweepsStand, SweepStage, Task, Tell, TellStage, those, Told, Unswept, View, view, Watch, Words, words}
+use Rattle.gh_sweep.specs.Listing.{bit_words}
 use Rattle.gh_sweep.specs.Moves.{Sweeps}
-use Rattle.gh_sweep.specs.Shared.{Done, Far, InSpan, IsNumbered, SaysFar, Unswept}
+use Rattle.gh_sweep.specs.Shared.{Done}
 use Rattle.gh_sweep.specs.Shared as sweep
 use Rattle.gh_sweep.specs.Sound.{reached}
 use Rattle.gh_sweep.specs.Sweepers.{has_span, HasReached, marks_cleared}
-use Rattle.gh_state.specs.Shared.{marks_in, sweep_over, Told, seen_by_sweep}
-use Rattle.gh_coord.specs.declared.close.CloseStage.TheVariants as closing
 use Rattle.gh_coord.specs.Closing as closes_by
-use Rattle.gh_coord.specs.declared.tell.TellStage.TheVariants as telling
-use Rattle.gh_coord.specs.declared.coord.CoordStage.TheVariants as coord_at
 use Rattle.gh_coord.specs.Handshake as leading
-use Rattle.gh_mutator_heap.specs.Facts.{KnowsAt}
-use Rattle.gh_mutator_heap.specs.PollHeap.{Rests}
-use Rattle.gh_lists.specs.declared.handshake.Actor.TheVariants as actor
-use Rattle.gh_law.specs.SweepMarks.{CachedAreSwept, EachSpanIsSwept, IsRunning, IsUncut, MarksAreLeft, OwnedAreSwept, SaysHowFar, SpansAreNumbered, SweepsStand}
-use Rattle.gh_holds.specs.Below.{IsInSweep, IsMarking, IsUnderWay, Known, sweep_of}
-use Rattle.gh_law.proofs.Vocabulary.{generation_of as generation_at, marks_at, SweepRuns, View, ◌%◌, Actor, actors_after, alloc_words, Arena, arena, Check, Close, CloseStage, Coordinating, CoordStage, Count, CycleEnd, Entry, ever, HasState, Head, HoldsAt, IsBeginning, IsClosing, IsInLimits, IsLed, IsTelling, Legal, mark_words, MarkOn, Name, Op, Open, page_of, PageWord, page_words, Polling, processor_at, Reach, Row, row_bit, seats_of, State, StopAgain, Sweep, SweepStage, Task, Tell, TellStage, those, view, Watch, Words, words}
-use Rattle.gh_lists.specs.Going.{ClosingIsBusy, goes_then}
+use Rattle.gh_state.specs.Routines.{SweepRuns}
 use Rattle.gh_holds.specs.HasAt.{has_at}
-use Rattle.gh_lists.specs.Seats.{other}
-use Rattle.gh_holds.specs.Standing.{once}
-use Rattle.gh_lists.specs.Handshake.{Setup}
 
 -- bits of two rows are the same where their words are
 same_bit : (row other : Row) (x : ℕ) → row (x / 64) ≡ other (x / 64) → row_bit row x ≡ row_bit other x
@@ -81,20 +63,20 @@ module _ (setup : Setup) (es : List (Entry Op)) (has : HasState setup es) where
   told_are : now ≡ words setup es
   told_are = has.of_list.words_are
 
-  generation : now cell.Gen ≡ generation_at e
+  generation : now Cell.Gen ≡ generation_at e
   generation = good.generation
 
-  number_at : (p : ℕ) (h : SpanHead) → page_of (now (cell.Page p)) ≡ Head h → IsNumbered (now cell.Gen) h (s.far p)
+  number_at : (p : ℕ) (h : SpanHead) → page_of (now (Cell.Page p)) ≡ Head h → IsNumbered (now Cell.Gen) h (s.far p)
   number_at p h is = subst (λ (n : ℕ). IsNumbered n h (s.far p)) (sym generation) (subst (λ (x : PageWord). SaysFar (generation_at e) x (s.far p)) is (good.numbers p))
 
   numbers_now : SpansAreNumbered now
-  numbers_now p h is = how_far (now cell.Gen) h (s.far p) (number_at p h is)
+  numbers_now p h is = how_far (now Cell.Gen) h (s.far p) (number_at p h is)
 
   owned_now : OwnedAreSwept now
   owned_now p h is owned = (has.good.heap.numbers p h is).owned owned
 
   swept_now : ((p : ℕ) → s.far p ≡ Done) → EachSpanIsSwept now
-  swept_now far p h is = number_is (now cell.Gen) h (s.far p) (number_at p h is) (far p)
+  swept_now far p h is = number_is (now Cell.Gen) h (s.far p) (number_at p h is) (far p)
 
   pub spans_numbered : SpansAreNumbered (words setup es)
   spans_numbered = subst SpansAreNumbered told_are numbers_now
@@ -117,20 +99,20 @@ module _ (setup : Setup) (es : List (Entry Op)) (has : HasState setup es) where
 
   -- While the marks are a sweep's.
   module _ (over : s.told ≡ None) where
-    mark_is : (i : ℕ) → now (cell.Mark i) ≡ cond (s.clear i) 0 (marks_at e i)
-    mark_is i = ap (λ (t : Option Told). marks_in t (now (cell.Mark i))) (sym over) ∙ good.marks i
+    mark_is : (i : ℕ) → now (Cell.Mark i) ≡ cond (s.clear i) 0 (marks_at e i)
+    mark_is i = ap (λ (t : Option Told). marks_in t (now (Cell.Mark i))) (sym over) ∙ good.marks i
 
-    clear_mark : (i : ℕ) → s.clear i ≡ true → now (cell.Mark i) ≡ 0
+    clear_mark : (i : ℕ) → s.clear i ≡ true → now (Cell.Mark i) ≡ 0
     clear_mark i is = mark_is i ∙ ap (λ (b : Bool). cond b 0 (marks_at e i)) is
 
-    kept_mark : (i : ℕ) → s.clear i ≡ false → now (cell.Mark i) ≡ marks_at e i
+    kept_mark : (i : ℕ) → s.clear i ≡ false → now (Cell.Mark i) ≡ marks_at e i
     kept_mark i is = mark_is i ∙ ap (λ (b : Bool). cond b 0 (marks_at e i)) is
 
-    cleared : (i : ℕ) → ((x : InSpan (page_words now) i) → x.h.number ≡ now cell.Gen) → now (cell.Mark i) ≡ 0
+    cleared : (i : ℕ) → ((x : InSpan (page_words now) i) → x.h.number ≡ now Cell.Gen) → now (Cell.Mark i) ≡ 0
     cleared i swept = go (s.clear i) refl where
-      go : (b : Bool) → s.clear i ≡ b → now (cell.Mark i) ≡ 0
+      go : (b : Bool) → s.clear i ≡ b → now (Cell.Mark i) ≡ 0
       go true is = clear_mark i is
-      go false is = let left = good.unswept i is in absurd (left.unswept (done_is (now cell.Gen) left.span.h (s.far left.span.p) (number_at left.span.p left.span.h left.span.head) (swept left.span)))
+      go false is = let left = good.unswept i is in absurd (left.unswept (done_is (now Cell.Gen) left.span.h (s.far left.span.p) (number_at left.span.p left.span.h left.span.head) (swept left.span)))
 
     -- an object that is reached in a word that is not cut is marked
     in_uncut : (n : Name) (a : ℕ) → (a ≡ s.heap.place n) → Reach s.heap.ever n → s.cut (a / 64) ≡ false → row_bit (mark_words now) a ≡ 1
@@ -139,7 +121,7 @@ module _ (setup : Setup) (es : List (Entry Op)) (has : HasState setup es) where
       go true is = absurd (let cut = good.order (a / 64) is in let no : true ≡ false = sym cut ∙ uncut in cc)
       go false is = same_bit (mark_words now) (marks_at e) a (kept_mark (a / 64) is) ∙ subst (λ (x : ℕ). row_bit (marks_at e) x ≡ 1) (sym here) (has.good.reached n reach (subst (λ (x : ℕ). s.cut (x / 64) ≡ false) here uncut))
 
-    in_unswept : (n : Name) (a : ℕ) → (a ≡ s.heap.place n) → Reach s.heap.ever n → (x : InSpan (page_words now) (a / 64)) → x.h.number + 2 ≡ now cell.Gen → row_bit (mark_words now) a ≡ 1
+    in_unswept : (n : Name) (a : ℕ) → (a ≡ s.heap.place n) → Reach s.heap.ever n → (x : InSpan (page_words now) (a / 64)) → x.h.number + 2 ≡ now Cell.Gen → row_bit (mark_words now) a ≡ 1
     in_unswept n a here reach x number = grind (arith, in_uncut, number_at, unswept_is)
 
     stand : (x : ℕ) → row_bit (mark_words now) x ≡ 1 → row_bit (alloc_words now) x ≡ 1
@@ -171,11 +153,11 @@ module _ (setup : Setup) (es : List (Entry Op)) (has : HasState setup es) where
       marks_left = grind (arith, left_now, told_are)
 
   -- While a cycle is opened no mark is set, each span is swept, and nobody sweeps.
-  module _ (far : (p : ℕ) → s.far p ≡ Done) (none : (i : ℕ) → now (cell.Mark i) ≡ 0) (nobody : (who : ℕ) → sweeps who ≡ None) where
+  module _ (far : (p : ℕ) → s.far p ≡ Done) (none : (i : ℕ) → now (Cell.Mark i) ≡ 0) (nobody : (who : ℕ) → sweeps who ≡ None) where
     none_left : MarksAreLeft now s.heap.ever sweeps
     none_left = record {
       cleared = λ i swept. none i;
-      unswept = λ n a reach at x number. let swept = number_is (now cell.Gen) x.h (s.far x.p) (number_at x.p x.h x.head) (far x.p) in absurd (omega (arith, swept, number));
+      unswept = λ n a reach at x number. let swept = number_is (now Cell.Gen) x.h (s.far x.p) (number_at x.p x.h x.head) (far x.p) in absurd (omega (arith, swept, number));
       uncut = λ n a who m reach at is in_it. absurd (let no : None ≡ Some m = sym (nobody who) ∙ is in cc);
       stand = λ x set. absurd (no_bit (mark_words now) x (none (x / 64)) set);
     }
@@ -227,16 +209,16 @@ module _ (setup : Setup) (limits : IsInLimits setup.layout) (known : Known) (es 
     off_left has over = marks_left setup es has over limits known (runs_there has)
 
     told_left : (p : TellStage) → IsTelling setup es c p → Left
-    told_left telling.Ended h = absurd h
-    told_left telling.StoreTrigger h = off_left h.quiet.has h.quiet.over
+    told_left TellStage.Ended h = absurd h
+    told_left TellStage.StoreTrigger h = off_left h.quiet.has h.quiet.over
     told_left _ h = off_left h.quiet.has h.quiet.over
 
     closing_left : (y : closes_by.Closing) (p : CloseStage) → y.stage ≡ p → (leading.Marks (Close y) → ⊥) → IsClosing setup es c p → Left
-    closing_left y closing.StorePhase at off h = off_left h.has h.over
-    closing_left y closing.Ended at off h = absurd h
+    closing_left y CloseStage.StorePhase at off h = off_left h.has h.over
+    closing_left y CloseStage.Ended at off h = absurd h
     closing_left y _ at off h = absurd (off (ap closes_by.is_marking at))
 
-    opening_left : (has : HasState setup es) → IsUnderWay has.state → ((i : ℕ) → has.state.heap.words (cell.Mark i) ≡ 0) → Left
+    opening_left : (has : HasState setup es) → IsUnderWay has.state → ((i : ℕ) → has.state.heap.words (Cell.Mark i) ≡ 0) → Left
     opening_left has under none = no_marks_left setup es has (far_done has under) none (λ who. none_runs has under who (sweep_of (at es who)) refl)
 
     left_at : (p : CoordStage) → ClosingIsBusy p → (leading.Marks p → ⊥) → HoldsAt setup es c p → Left
@@ -249,7 +231,7 @@ module _ (setup : Setup) (limits : IsInLimits setup.layout) (known : Known) (es 
     left_at (Sweep w) going off s = off_left s.has s.over
     left_at (Count x) going off h = off_left h.quiet.has h.quiet.over
     left_at (Tell t) going off h = told_left t.stage h
-    left_at coord_at.Done going off h = off_left h.quiet.has h.quiet.over
+    left_at CoordStage.Done going off h = off_left h.quiet.has h.quiet.over
     left_at _ going off q = off_left q.has q.over
 
   module _ (legal : Legal (those setup) es) (led : IsLed setup es c) (marking : leading.Marks c.stage → IsMarking setup es) (h : HoldsAt setup es c c.stage) where
@@ -260,7 +242,7 @@ module _ (setup : Setup) (limits : IsInLimits setup.layout) (known : Known) (es 
     has = has_at setup es c c.stage going marking h
 
     one_lead : (d : Coordinating) → IsLed setup es d → c ≡ d
-    one_lead d too = let both : actor.Leads c ≡ actor.Leads d = sym led ∙ too in cc
+    one_lead d too = let both : Actor.Leads c ≡ Actor.Leads d = sym led ∙ too in cc
 
     pub sweeps_stand : SweepsStand setup es
     sweeps_stand = record {

@@ -1,10 +1,7 @@
 -- A `new` that asks for a cycle behind its object has seen the trigger reached: by the two steps of its processor before.
 use Rattle.std.proofs.Common.{◌≡◌, ℕ, ◌==◌, Bool, true, false, cond, inl, inr, refl, sym, ap, subst, ◌∙◌, arith, List, [], ◌∷◌, Option}
-use Rattle.gh_base.specs.Lists.{by as own}
+use Rattle.gh_law.proofs.Vocabulary.{before_step, Entry, IsStartOf, Kind, Layout, nat_tests, Op, own, Processor, processor_kind, ProcessorWritesItsOwn, SawTriggerReached, Shape, started, state_of, Task}
 use Rattle.gh_mutator.specs.Asking.{Compares, CountsUpTo, SawReached, SeesReached}
-use Rattle.gh_law.specs.Asked.{SawTriggerReached}
-use Rattle.gh_lists.specs.Order.{before_step}
-use Rattle.gh_law.proofs.Vocabulary.{Entry, IsStartOf, Kind, Layout, nat_tests, Op, Processor, processor_kind, ProcessorWritesItsOwn, Shape, started, state_of, Task}
 
 module _ (shapes : List Shape) (l : Layout) (writes : ProcessorWritesItsOwn) (a : ℕ) where
   abbrev k : Kind Processor Op

@@ -1,15 +1,8 @@
 -- Where more cycles are swept than had begun behind a start of the list, one of them began behind it: by the numbers that the coordinator stores, which go up by one, and by what holds where it tells that a cycle is swept.
 use Rattle.std.proofs.Common.{◌≡◌, inl, inr, ℕ, suc, ◌+◌, ◌<◌, ◌≤◌, refl, sym, ap, subst, arith, List, [], ◌∷◌}
-use Rattle.std.proofs.lemmas.Bool.{cases_lt}
-use Rattle.gh_base.specs.declared.cell.Cell.TheVariants as cell
-use Rattle.gh_law.specs.Actors.{SweptSince}
-use Rattle.gh_lists.specs.Lists.{BeginsCycle, IsTelling}
-use Rattle.gh_law.proofs.Vocabulary.{ahead_at, Ask, CoordStage, effect, Entry, IsBeginning, IsStartOf, IsStepIn, Legal, Op, part_of, those, Words, words}
-use Rattle.gh_holds.specs.Below.{ListsKnown}
-use Rattle.gh_lists.specs.Starts.{compared, legal_start, start_of_start, whole}
-use Rattle.gh_lists.specs.Changes.{begins, Change, ends, Rises, same, tells}
-use Rattle.gh_holds.specs.EveryList.{InCycles}
-use Rattle.gh_lists.specs.Handshake.{Setup}
+use Rattle.gh_law.proofs.Vocabulary.{ahead_at, Ask, begins, BeginsCycle, cases_lt, Cell, Change, compared, CoordStage, effect, ends, Entry, InCycles, IsBeginning, IsStartOf, IsStepIn, Legal, legal_start, ListsKnown, Op, Rises, same, Setup, start_of_start, SweptSince, tells, those, whole, Words, words}
+use Rattle.gh_lists.specs.Lists.{IsTelling}
+use Rattle.gh_coord.specs.Parts.{part_of}
 
 -- where a cycle begins its number stands, and no other has one
 begins_one : (p : CoordStage) → IsBeginning p → ((ahead_at (part_of p)).begun ≡ 1) × ((ahead_at (part_of p)).numbered ≡ 1)
@@ -33,9 +26,9 @@ module _ (setup : Setup) (lists : ListsKnown setup) where
     rises = lists.rises e es legal
 
   -- what a start of the list has begun, the list has
-  begun_by : (start es : List (Entry Op)) → IsStartOf start es → Lawful es → told start cell.Begun ≤ told es cell.Begun
-  begun_by start [] is legal = subst (λ (x : List (Entry Op)). told x cell.Begun ≤ told [] cell.Begun) (sym is) (omega arith)
-  begun_by start (e ∷ es) (inl is) legal = subst (λ (x : List (Entry Op)). told x cell.Begun ≤ told (e ∷ es) cell.Begun) (sym is) (omega arith)
+  begun_by : (start es : List (Entry Op)) → IsStartOf start es → Lawful es → told start Cell.Begun ≤ told es Cell.Begun
+  begun_by start [] is legal = subst (λ (x : List (Entry Op)). told x Cell.Begun ≤ told [] Cell.Begun) (sym is) (omega arith)
+  begun_by start (e ∷ es) (inl is) legal = subst (λ (x : List (Entry Op)). told x Cell.Begun ≤ told (e ∷ es) Cell.Begun) (sym is) (omega arith)
   begun_by start (e ∷ es) (inr is) legal = let before = begun_by start es is legal.0 in let up = (rises e es legal).begun in omega (arith, before, up)
 
   -- with an entry of the list the coordinator tells that cycle k is swept
@@ -45,28 +38,28 @@ module _ (setup : Setup) (lists : ListsKnown setup) where
     of : IsStartOf (entry ∷ before) es
     step : IsStepIn setup IsTelling k entry before
 
-  is_told : (k : ℕ) (es : List (Entry Op)) → Lawful es → 0 < k → k ≤ told es cell.Swept → IsTold k es
+  is_told : (k : ℕ) (es : List (Entry Op)) → Lawful es → 0 < k → k ≤ told es Cell.Swept → IsTold k es
   is_told k [] legal some le = absurd (omega (arith, some, le))
   is_told k (e ∷ es) legal some le = by (changes e es legal) (λ x. is_told k es legal.0 some x) where
     older : IsTold k es → IsTold k (e ∷ es)
     older t = record { entry = t.entry; before = t.before; of = inr t.of; step = t.step }
 
-    by : Changes e es legal → (k ≤ told es cell.Swept → IsTold k es) → IsTold k (e ∷ es)
+    by : Changes e es legal → (k ≤ told es Cell.Swept → IsTold k es) → IsTold k (e ∷ es)
     by (same x) before = older (before (let is = x.swept (told es) in omega (arith, is, le)))
-    by (begins is) before = older (before (let is = ap (λ (q : Ask). effect (told es) q cell.Swept) is in omega (arith, is, le)))
-    by (ends x) before = older (before (let is = ap (λ (q : Ask). effect (told es) q cell.Swept) x.ask_is in omega (arith, is, le)))
-    by (tells x) before = elim (cases_lt (told es cell.Swept) k) [
+    by (begins is) before = older (before (let is = ap (λ (q : Ask). effect (told es) q Cell.Swept) is in omega (arith, is, le)))
+    by (ends x) before = older (before (let is = ap (λ (q : Ask). effect (told es) q Cell.Swept) x.ask_is in omega (arith, is, le)))
+    by (tells x) before = elim (cases_lt (told es Cell.Swept) k) [
       | inl now ↦
-          let more = ap (λ (q : Ask). effect (told es) q cell.Swept) x.ask_is in
+          let more = ap (λ (q : Ask). effect (told es) q Cell.Swept) x.ask_is in
           let number = x.number in
           record { entry = e; before = es; of = inl refl; step = record { lead = x.lead; led = x.led; by = x.actor_is; stage = x.telling_it; cycle = omega (arith, now, more, number, le) } }
       | inr was ↦ older (before was)
     ]
 
-  module _ (in_cycles : InCycles setup) (first : Entry Op) (earlier es : List (Entry Op)) (legal : Lawful es) (start : IsStartOf (first ∷ earlier) es) (seat : first.actor < setup.layout.procs) (more : told earlier cell.Begun < told es cell.Swept) where
+  module _ (in_cycles : InCycles setup) (first : Entry Op) (earlier es : List (Entry Op)) (legal : Lawful es) (start : IsStartOf (first ∷ earlier) es) (seat : first.actor < setup.layout.procs) (more : told earlier Cell.Begun < told es Cell.Swept) where
     -- of the cycles that are swept it is the first that had not begun
     abbrev k : ℕ
-    k = suc (told earlier cell.Begun)
+    k = suc (told earlier Cell.Begun)
 
     abbrev Since : Type 0
     Since = SweptSince setup (first ∷ earlier) es
@@ -82,8 +75,8 @@ module _ (setup : Setup) (lists : ListsKnown setup) where
         let there : IsStartOf ds earlier = start_of_start ds (d ∷ ds) earlier (inr (whole ds)) is in
         let counts = lists.counts ds b.lead (legal_start (those setup) ds earlier there lawful) b.led in
         let one = begins_one b.lead.stage b.stage in
-        let begun : told ds cell.Begun ≡ told ds cell.Swept + (ahead_at (part_of b.lead.stage)).begun = counts.begun in
-        let number : b.lead.begun ≡ told ds cell.Swept + (ahead_at (part_of b.lead.stage)).numbered = counts.number in
+        let begun : told ds Cell.Begun ≡ told ds Cell.Swept + (ahead_at (part_of b.lead.stage)).begun = counts.begun in
+        let number : b.lead.begun ≡ told ds Cell.Swept + (ahead_at (part_of b.lead.stage)).numbered = counts.number in
         let cycle = b.cycle in
         let one_begun = one.0 in
         let one_numbered = one.1 in

@@ -1,23 +1,10 @@
 -- Where an operation of a processor has waited for a cycle, it is the last that the processor began, and a cycle that began behind its first entry was swept.
 use Rattle.std.proofs.Common.{◌≡◌, ℕ, ◌<◌, ◌≤◌, Bool, true, false, cond, eqb, List, [], ◌∷◌, ◌++◌, Option, Some, None, refl, sym, ap, subst, ◌∙◌, arith, inl, inr}
-use Rattle.std.specs.Option.{option_to_list}
-use Rattle.std.proofs.lemmas.Bool.{cases_lt}
-use Rattle.gh_law.specs.Vocabulary.{Act, acts_at, asks, begins, by, cell_of, deeds, Entry, has_left_at, has_point, is_busy_at, Kind, Legal, Op, Processor, processor_kind, Shape, started, state_of, takes, Task, Words}
-use Rattle.gh_base.specs.declared.cell.Ask.TheVariants as ask
-use Rattle.gh_base.specs.declared.cell.Cell.TheVariants as cell
-use Rattle.gh_base.specs.Orders.{DeedsFit, done_at}
-use Rattle.gh_law.specs.Actors.{AwaitedCycle, Awaits, HasAwaited}
-use Rattle.gh_lists.specs.Lists.{words}
-use Rattle.gh_lists.specs.Handshake.{those, Setup}
-use Rattle.gh_law.proofs.Vocabulary.{Ask, before_step, begun_in, IsAwake, IsStartOf, Layout, party_at, party_of, Polling, stage_at, stage_of}
-use Rattle.gh_mutator.specs.Listing.{asks_at}
-use Rattle.gh_holds.specs.Below.{ListsKnown}
-use Rattle.gh_lists.specs.Resting.{runs_are}
-use Rattle.gh_lists.specs.Starts.{legal_start, whole}
-use Rattle.gh_lists.specs.Changes.{Rises}
+use Rattle.gh_law.proofs.Vocabulary.{Act, acts_at, Ask, asks, AwaitedCycle, Awaits, before_step, begun_in, by, cases_lt, Cell, cell_of, deeds, DeedsFit, done_at, Entry, has_point, HasAwaited, InCycles, is_busy_at, IsAwake, IsStartOf, Kind, Layout, Legal, legal_start, ListsKnown, Op, option_to_list, party_at, party_of, Polling, Processor, processor_kind, Rises, runs_are, Setup, Shape, stage_at, stage_of, started, state_of, takes, Task, those, whole, Words, words}
+use Rattle.gh_mutator.specs.Listing.{begins, asks_at}
+use Rattle.gh_mutator.specs.Serving.{has_left_at}
 use Rattle.gh_lists.specs.Stepping.{IsAnothers, IsItsOwn, its_own, no_processors, who_steps}
 use Rattle.gh_law.proofs.Awaited.Swept.{rises, swept_since}
-use Rattle.gh_holds.specs.EveryList.{InCycles}
 use Rattle.gh_law.proofs.Awaited.Waiting.{first_sees_none, first_waits, full_searches, gc_acts, HasSeenCycle, HasWaited, IsSearching, more_swept, steps_on}
 
 -- Where it searches, or rests, a processor knows the number of cycles begun.
@@ -31,7 +18,7 @@ resting_knows p t idle here = grind arith
 same_view : (shapes : List Shape) (m : Processor) (o : Op) → (begins shapes m o).poll.local.view ≡ m.poll.local.view
 same_view shapes m o = grind arith
 
-again : (l : Layout) (m : Processor) (low swept found : ℕ) (t : Task) (o : Op) → HasWaited low swept t → HasSeenCycle found t o → (asks_at l m t ≡ ask.Load cell.Swept → found ≤ swept) → low < swept
+again : (l : Layout) (m : Processor) (low swept found : ℕ) (t : Task) (o : Op) → HasWaited low swept t → HasSeenCycle found t o → (asks_at l m t ≡ Ask.Load Cell.Swept → found ≤ swept) → low < swept
 again l m low swept found t o h a so = grind arith
 
 again_busy : (found : ℕ) (t : Task) (o : Op) → HasSeenCycle found t o → is_busy_at t ≡ true
@@ -77,15 +64,15 @@ module _ (setup : Setup) (lists : ListsKnown setup) where
       by_it : first.actor ≡ a
       began : first.begun ≡ Some o
       none_since : begun_in (by a since) ≡ []
-      low : told earlier cell.Begun ≤ told es cell.Begun
-      waited : HasWaited (told earlier cell.Begun) (told es cell.Swept) (own es).task
+      low : told earlier Cell.Begun ≤ told es Cell.Begun
+      waited : HasWaited (told earlier Cell.Begun) (told es Cell.Swept) (own es).task
       unacted : (q : Op) → (deeds setup.layout setup.shapes).unacted (own es) ≡ Some q → q ≡ o
 
     abbrev IsBegun : List (Entry Op) → Type 0
     IsBegun es = is_busy_at (own es).task ≡ true → (o : Op) × Began es o
 
     -- what an awake processor knows
-    exact : (es : List (Entry Op)) → Lawful es → IsAwake (stage_of (own es)) → (party_of (own es)).view.begun ≡ told es cell.Begun
+    exact : (es : List (Entry Op)) → Lawful es → IsAwake (stage_of (own es)) → (party_of (own es)).view.begun ≡ told es Cell.Begun
     exact es legal awake = ((lists.keeps es legal).processors_know a (own es) (omega (arith, lt)) (runs_are setup es a lt) awake).begun_is
 
     -- what is to act behind a step was so before it
@@ -100,7 +87,7 @@ module _ (setup : Setup) (lists : ListsKnown setup) where
       m = before_step setup.shapes setup.layout es e
 
       -- one entry more, by which it begins nothing
-      longer : (o : Op) (b : Began es o) → begun_in (by a (e ∷ b.since)) ≡ [] → HasWaited (told b.earlier cell.Begun) (told (e ∷ es) cell.Swept) (own (e ∷ es)).task → ((q : Op) → (deeds setup.layout setup.shapes).unacted (own (e ∷ es)) ≡ Some q → q ≡ o) → Began (e ∷ es) o
+      longer : (o : Op) (b : Began es o) → begun_in (by a (e ∷ b.since)) ≡ [] → HasWaited (told b.earlier Cell.Begun) (told (e ∷ es) Cell.Swept) (own (e ∷ es)).task → ((q : Op) → (deeds setup.layout setup.shapes).unacted (own (e ∷ es)) ≡ Some q → q ≡ o) → Began (e ∷ es) o
       longer o b none waited unacted = record {
         earlier = b.earlier;
         first = b.first;
@@ -114,16 +101,16 @@ module _ (setup : Setup) (lists : ListsKnown setup) where
         unacted = unacted;
       }
 
-      found_there : Its es e legal → asks setup.layout m ≡ ask.Load cell.Swept → e.found ≡ told es cell.Swept
+      found_there : Its es e legal → asks setup.layout m ≡ Ask.Load Cell.Swept → e.found ≡ told es Cell.Swept
       found_there x is = legal.1.found ∙ ap (λ (q : Ask). told es (cell_of q)) (x.asked ∙ is)
 
-      found_is : Its es e legal → asks setup.layout m ≡ ask.Load cell.Swept → e.found ≤ told (e ∷ es) cell.Swept
+      found_is : Its es e legal → asks setup.layout m ≡ Ask.Load Cell.Swept → e.found ≤ told (e ∷ es) Cell.Swept
       found_is x is = grind arith
 
-      own_step : (x : Its es e legal) (low : ℕ) → HasWaited low (told es cell.Swept) m.task → (IsSearching m.task → low ≤ m.poll.local.view.begun) → HasWaited low (told (e ∷ es) cell.Swept) (own (e ∷ es)).task
+      own_step : (x : Its es e legal) (low : ℕ) → HasWaited low (told es Cell.Swept) m.task → (IsSearching m.task → low ≤ m.poll.local.view.begun) → HasWaited low (told (e ∷ es) Cell.Swept) (own (e ∷ es)).task
       own_step x low h knows =
-          let h' = more_swept low (told es cell.Swept) (told (e ∷ es) cell.Swept) m.task (up e es legal).swept h in
-          subst (λ (n : Processor). HasWaited low (told (e ∷ es) cell.Swept) n.task) (sym x.after) (steps_on setup.layout setup.shapes m low (told (e ∷ es) cell.Swept) e.found m.task refl x.busy h' knows (found_is x))
+          let h' = more_swept low (told es Cell.Swept) (told (e ∷ es) Cell.Swept) m.task (up e es legal).swept h in
+          subst (λ (n : Processor). HasWaited low (told (e ∷ es) Cell.Swept) n.task) (sym x.after) (steps_on setup.layout setup.shapes m low (told (e ∷ es) Cell.Swept) e.found m.task refl x.busy h' knows (found_is x))
 
       own_unacted : (x : Its es e legal) (o : Op) → ((q : Op) → (deeds setup.layout setup.shapes).unacted m ≡ Some q → q ≡ o) → (q : Op) → (deeds setup.layout setup.shapes).unacted (own (e ∷ es)) ≡ Some q → q ≡ o
       own_unacted x o before q is = before q (still_unacted m e.found q x.busy (ap (λ (n : Processor). (deeds setup.layout setup.shapes).unacted n) (sym x.after) ∙ is))
@@ -138,18 +125,18 @@ module _ (setup : Setup) (lists : ListsKnown setup) where
       goes_on x none before =
           let same : m ≡ own es = x.before ∙ ap (λ (b : Option Op). started k b (own es)) none in
           let b = before (ap (λ (n : Processor). is_busy_at n.task) (sym same) ∙ x.busy) in
-          let low = told b.1.earlier cell.Begun in
-          let h = subst (λ (n : Processor). HasWaited low (told es cell.Swept) n.task) (sym same) b.1.waited in
+          let low = told b.1.earlier Cell.Begun in
+          let h = subst (λ (n : Processor). HasWaited low (told es Cell.Swept) n.task) (sym same) b.1.waited in
           let quiet : begun_in (by a (e ∷ b.1.since)) ≡ [] = begun_here b.1.since x.here ∙ ap (λ (q : Option Op). option_to_list q ++ begun_in (by a b.1.since)) none ∙ b.1.none_since in (
             b.0,
             longer b.0 b.1 quiet (own_step x low h (λ s. knows low b.1.low same (subst (λ (n : Processor). IsSearching n.task) same s)))
                 (own_unacted x b.0 (λ q is. b.1.unacted q (ap (λ (n : Processor). (deeds setup.layout setup.shapes).unacted n) (sym same) ∙ is))),
           ) where
-            knows : (low : ℕ) → low ≤ told es cell.Begun → m ≡ own es → IsSearching (own es).task → low ≤ m.poll.local.view.begun
+            knows : (low : ℕ) → low ≤ told es Cell.Begun → m ≡ own es → IsSearching (own es).task → low ≤ m.poll.local.view.begun
             knows low le same s =
                 let w = searching_knows (own es).poll (own es).task s in
                 let view = exact es legal.0 w.0 in
-                let same_begun : m.poll.local.view.begun ≡ told es cell.Begun = ap (λ (n : Processor). n.poll.local.view.begun) same ∙ sym (ap (λ v. v.begun) w.1) ∙ view in
+                let same_begun : m.poll.local.view.begun ≡ told es Cell.Begun = ap (λ (n : Processor). n.poll.local.view.begun) same ∙ sym (ap (λ v. v.begun) w.1) ∙ view in
                 omega (arith, le, same_begun)
 
       begins_now : (x : Its es e legal) (o : Op) → e.begun ≡ Some o → (o : Op) × Began (e ∷ es) o
@@ -170,11 +157,11 @@ module _ (setup : Setup) (lists : ListsKnown setup) where
         go true left = absurd (let b = sym x.busy ∙ ap (λ (n : Processor). is_busy_at n.task) (at_first ∙ ap (λ (b : Bool). cond b (own es) (begins setup.shapes (own es) o)) left) ∙ rested in cc)
         go false left =
             let same : m ≡ begins setup.shapes (own es) o = at_first ∙ ap (λ (b : Bool). cond b (own es) (begins setup.shapes (own es) o)) left in
-            let low = told es cell.Begun in
+            let low = told es Cell.Begun in
             let w = resting_knows (own es).poll (own es).task rested left in
             let knows : (own es).poll.local.view.begun ≡ low = sym (ap (λ v. v.begun) w.1) ∙ exact es legal.0 w.0 in
             let same_begun : m.poll.local.view.begun ≡ low = ap (λ (n : Processor). n.poll.local.view.begun) same ∙ ap (λ v. v.begun) (same_view setup.shapes (own es) o) ∙ knows in
-            let h = subst (λ (n : Processor). HasWaited low (told es cell.Swept) n.task) (sym same) (first_waits setup.shapes (own es) o low (told es cell.Swept) (omega (arith, knows))) in (
+            let h = subst (λ (n : Processor). HasWaited low (told es Cell.Swept) n.task) (sym same) (first_waits setup.shapes (own es) o low (told es Cell.Swept) (omega (arith, knows))) in (
               o,
               record {
                 earlier = es;
@@ -199,9 +186,9 @@ module _ (setup : Setup) (lists : ListsKnown setup) where
         other : Others es e legal → (o : Op) × Began (e ∷ es) o
         other x =
             let b = before (ap (λ (n : Processor). is_busy_at n.task) (sym x.after) ∙ busy) in
-            let low = told b.1.earlier cell.Begun in (
+            let low = told b.1.earlier Cell.Begun in (
               b.0,
-              longer b.0 b.1 (begun_aside b.1.since x.apart ∙ b.1.none_since) (subst (λ (n : Processor). HasWaited low (told (e ∷ es) cell.Swept) n.task) (sym x.after) (more_swept low (told es cell.Swept) (told (e ∷ es) cell.Swept) (own es).task (up e es legal).swept b.1.waited))
+              longer b.0 b.1 (begun_aside b.1.since x.apart ∙ b.1.none_since) (subst (λ (n : Processor). HasWaited low (told (e ∷ es) Cell.Swept) n.task) (sym x.after) (more_swept low (told es Cell.Swept) (told (e ∷ es) Cell.Swept) (own es).task (up e es legal).swept b.1.waited))
                   (λ q is. b.1.unacted q (ap (λ (n : Processor). (deeds setup.layout setup.shapes).unacted n) (sym x.after) ∙ is)),
             )
 
@@ -216,7 +203,7 @@ module _ (setup : Setup) (lists : ListsKnown setup) where
           let same : before_step setup.shapes setup.layout es e ≡ own es = x.before ∙ ap (λ (b : Option Op). started k b (own es)) none in
           let s = subst (λ (n : Processor). HasSeenCycle e.found n.task act.op) same sees in
           let b = is_begun es legal.0 (again_busy e.found (own es).task act.op s) in
-          let later : told b.1.earlier cell.Begun < told es cell.Swept = again setup.layout (own es) (told b.1.earlier cell.Begun) (told es cell.Swept) e.found (own es).task act.op b.1.waited s (λ loads. let found = found_there es e legal x (ap (asks setup.layout) same ∙ loads) in omega (arith, found)) in
+          let later : told b.1.earlier Cell.Begun < told es Cell.Swept = again setup.layout (own es) (told b.1.earlier Cell.Begun) (told es Cell.Swept) e.found (own es).task act.op b.1.waited s (λ loads. let found = found_there es e legal x (ap (asks setup.layout) same ∙ loads) in omega (arith, found)) in
           let one : act.op ≡ b.0 = b.1.unacted act.op (ap (λ (n : Processor). (deeds setup.layout setup.shapes).unacted n) (sym same) ∙ fit.acts_for (before_step setup.shapes setup.layout es e) e.found act x.busy acts) in
           let start : IsStartOf (b.1.first ∷ b.1.earlier) es = subst (λ (xs : List (Entry Op)). IsStartOf (b.1.first ∷ b.1.earlier) xs) (sym b.1.there) (start_behind b.1.since (b.1.first ∷ b.1.earlier)) in
           let seat : b.1.first.actor < setup.layout.procs = let by_it = b.1.by_it in omega (arith, lt, by_it) in

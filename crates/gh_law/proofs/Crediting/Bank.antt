@@ -1,17 +1,10 @@
 -- Which steps leave the bank of credit as it is: all but a worker's hand-over, a swap of a processor that assists, and the coordinator's store where it ends marking.
 use Rattle.std.proofs.Common.{◌≡◌, ◌⊎◌, ℕ, ◌+◌, ◌≤◌, arith}
-use Rattle.std.proofs.lemmas.Bool.Decides.{nat_tests}
-use Rattle.gh_base.specs.declared.cell.Cell.TheVariants as cell
-use Rattle.gh_coord.specs.declared.close.CloseStage.TheVariants as close_stage
-use Rattle.gh_credit.specs.Drawing.{drawn_by, LeavesOrDraws}
-use Rattle.gh_credit.specs.Earning.{handed_by}
-use Rattle.gh_mutator.specs.Running.{IsAssisting}
+use Rattle.gh_law.proofs.Vocabulary.{Add, And, Ask, asks_at, Cell, Close, CloseStage, Coordinating, CoordStage, drawn_by, effect, handed_by, IsAssisting, IsWritten, lapsed_by, Layout, LeavesOrDraws, Load, nat_tests, Or, Processor, Store, Swap, SweepStage, Words, WritesItsOwn, WritesOf}
 use Rattle.gh_sweep.specs.Listing as sweep
-use Rattle.gh_law.specs.Credit.{lapsed_by}
-use Rattle.gh_law.proofs.Vocabulary.{Add, And, Ask, asks_at, Cell, Close, Coordinating, CoordStage, effect, IsWritten, Layout, Load, Or, Processor, Store, Swap, SweepStage, Words, WritesItsOwn, WritesOf}
 
 abbrev pub IsOther : Cell → Type 0
-IsOther cell.Bank = ⊥
+IsOther Cell.Bank = ⊥
 IsOther _ = Unit {0}
 
 -- it loads, or is on another word
@@ -25,7 +18,7 @@ IsBeside (Swap c old new) = IsOther c
 
 -- so the bank's word stays, and nothing is earned or spent or lapses
 pub record LeavesBank (q : Ask) : Type 0 where
-  pub bank : (w : Words) → effect w q cell.Bank ≡ w cell.Bank
+  pub bank : (w : Words) → effect w q Cell.Bank ≡ w Cell.Bank
   pub earns : handed_by q ≡ 0
   pub spends : (found : ℕ) → drawn_by q found ≡ 0
   pub lapses : (found : ℕ) → lapsed_by q found ≡ 0
@@ -34,7 +27,7 @@ pub leaves_bank : (q : Ask) → IsBeside q → LeavesBank q
 leaves_bank q is = grind (arith, nat_tests)
 
 -- By a swap on the bank that takes words out of it, what it is less by is drawn.
-pub draws_bank : (w : Words) (old new : ℕ) → new ≤ old → effect w (Swap cell.Bank old new) cell.Bank + drawn_by (Swap cell.Bank old new) (w cell.Bank) ≡ w cell.Bank
+pub draws_bank : (w : Words) (old new : ℕ) → new ≤ old → effect w (Swap Cell.Bank old new) Cell.Bank + drawn_by (Swap Cell.Bank old new) (w Cell.Bank) ≡ w Cell.Bank
 draws_bank w old new le = grind arith
 
 -- A processor's step: it is beside, or a swap on the bank by which it takes words out, while it assists.
@@ -42,7 +35,7 @@ draws_bank w old new le = grind arith
 pub record DrawsOnBank (m : Processor) (q : Ask) : Type 0 where
   pub old : ℕ
   pub new : ℕ
-  pub is : q ≡ Swap cell.Bank old new
+  pub is : q ≡ Swap Cell.Bank old new
   pub falls : new ≤ old
   pub assists : IsAssisting m.task
 
@@ -55,13 +48,13 @@ sweep_beside l v p = grind arith
 
 -- A worker's, while it sweeps no span: it is a hand-over to the bank, or beside.
 
-pub worker_beside : (seat : ℕ) (q : Ask) → WritesItsOwn seat q → IsBeside q ⊎ ((more : ℕ) × (q ≡ Add cell.Bank more))
+pub worker_beside : (seat : ℕ) (q : Ask) → WritesItsOwn seat q → IsBeside q ⊎ ((more : ℕ) × (q ≡ Add Cell.Bank more))
 worker_beside seat q is = grind arith
 
 -- The coordinator's: all but the store into the bank, where it ends marking.
 
 abbrev pub IsClearing : CoordStage → Type 0
-IsClearing (Close y) = y.stage ≡ close_stage.ClearBank
+IsClearing (Close y) = y.stage ≡ CloseStage.ClearBank
 IsClearing _ = ⊥
 
 pub lead_beside : (l : Layout) (c : Coordinating) (p : CoordStage) → IsBeside (asks_at l c p) ⊎ IsClearing p

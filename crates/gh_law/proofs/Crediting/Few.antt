@@ -1,16 +1,10 @@
 -- Credit is far from the end of its word: a cycle's words are few, and so are cycles.
 use Rattle.std.proofs.Common.{ℕ, ◌+◌, ◌*◌, ◌^◌, ◌<◌, ◌≤◌, arith, List}
 use Rattle.std.proofs.lemmas.Nat.{mul-le}
-use Rattle.gh_base.specs.declared.cell.Cell.TheVariants as cell
+use Rattle.gh_law.proofs.Vocabulary.{AllStands, AreFew, Cell, Entry, IsInLimits, Layout, most_scanned, Op, scanned_in, Setup, total, words}
 use Rattle.gh_base.specs.declared.limits.TheConstants.{MOST_STATEMENTS}
-use Rattle.gh_law.specs.Actors.{AllStands}
-use Rattle.gh_lists.specs.Marking.{IsInLimits}
-use Rattle.gh_holds.specs.Below.{most_scanned, scanned_in}
-use Rattle.gh_lists.specs.Wants.{AreFew, total}
-use Rattle.gh_law.proofs.Vocabulary.{Entry, Layout, Op, words}
 use Rattle.gh_lists.specs.Counting.{opened_in_stored}
 use Rattle.gh_lists.specs.Steps as seats
-use Rattle.gh_lists.specs.Handshake.{Setup}
 
 -- in so many cycles at the most
 few_in : (l : Layout) → IsInLimits l → (begun n : ℕ) → begun ≤ 2 * MOST_STATEMENTS + 1 → n ≤ begun * most_scanned l → n < 2 ^ 48
@@ -29,4 +23,4 @@ few_words setup counts es limits fit all few =
     let le = numbers.opened_first in
     let same = opened_in_stored es in
     let opened = few.opened in
-    few_in setup.layout limits (words setup es cell.Begun) (scanned_in setup es) (omega (arith, is, le, same, opened, fit)) all.scanned
+    few_in setup.layout limits (words setup es Cell.Begun) (scanned_in setup es) (omega (arith, is, le, same, opened, fit)) all.scanned

@@ -1,21 +1,15 @@
 -- What the coordinator knows of the bank of credit, and how its steps keep it: it knows what has lapsed, and the bank is empty but from where a cycle is marked until it clears the bank.
-use Rattle.std.proofs.Common.{◌≡◌, ℕ, ◌+◌, ◌^◌, ◌<◌, true, refl, ap, arith}
-use Rattle.gh_base.specs.declared.cell.Cell.TheVariants as cell
-use Rattle.gh_phase.specs.declared.view.RunPhase.{RunPhase}
-use Rattle.gh_phase.specs.declared.view.RunPhase.TheVariants as run
-use Rattle.gh_phase.specs.Handshake.{Stopped}
-use Rattle.gh_coord.specs.declared.close.CloseStage.TheVariants as close_stage
+use Rattle.std.proofs.Common.{◌≡◌, ℕ, ◌+◌, ◌^◌, ◌<◌, true, refl, arith}
+use Rattle.gh_law.proofs.Vocabulary.{Cell, Check, Close, CloseStage, Coordinating, CoordStage, Layout, Load, MarkOn, RunPhase, StopAgain, Stopped, Store, Watch}
 use Rattle.gh_coord.specs.Closing as close
-use Rattle.gh_coord.specs.Events.{by_event}
 use Rattle.gh_coord.specs.Handshake as leading
 use Rattle.gh_coord.specs.Listing as coord
-use Rattle.gh_law.proofs.Vocabulary.{Check, Close, CloseStage, Coordinating, CoordStage, Done, Layout, Load, MarkOn, StopAgain, Store, Watch}
 use Rattle.gh_law.proofs.Crediting.Bank.{IsClearing}
 
 -- the bank may hold credit
 abbrev pub HoldsAt : CloseStage → Type 0
-HoldsAt close_stage.LoadBank = Unit {0}
-HoldsAt close_stage.ClearBank = Unit {0}
+HoldsAt CloseStage.LoadBank = Unit {0}
+HoldsAt CloseStage.ClearBank = Unit {0}
 HoldsAt _ = ⊥
 
 abbrev pub MayHold : CoordStage → Type 0
@@ -28,7 +22,7 @@ MayHold _ = ⊥
 
 -- what it has loaded and not cleared yet
 abbrev pub loaded : CloseStage → (bank : ℕ) → ℕ
-loaded close_stage.ClearBank bank = bank
+loaded CloseStage.ClearBank bank = bank
 loaded _ bank = 0
 
 abbrev pub loaded_at : CoordStage → (bank : ℕ) → ℕ
@@ -40,20 +34,7 @@ pub record KnowsBank (n bank lapsed : ℕ) (p : CoordStage) : Type 0 where
   pub knows : coord.lapsed_at lapsed p ≡ n + loaded_at p bank
   pub empty : (MayHold p → ⊥) → bank ≡ 0
 
-module _ (l : Layout) (u : Coordinating) (n bank : ℕ) where
-  abbrev Knows : Coordinating → Type 0
-  Knows d = KnowsBank n bank d.lapsed d.stage
-
-  -- where marking is ended, but for the store into the bank
-  closes : (y : close.Closing) (p : CloseStage) (found : ℕ) → n + bank < 2 ^ 64 → (p ≡ close_stage.LoadBank → found ≡ bank) → (p ≡ close_stage.ClearBank → ⊥) → close.is_busy p ≡ true → y.lapsed ≡ n + loaded p bank → ((HoldsAt p → ⊥) → bank ≡ 0) → Knows (coord.after_close (coord.at_stage u (Close (close.goes_at y p found))) (close.given (close.goes_at y p found)))
-  closes y p found fits finds other busy knows empty = grind arith
-
-  goes_at : (p : CoordStage) (found : ℕ) → n + bank < 2 ^ 64 → (coord.asks_at l u p ≡ Load cell.Bank → found ≡ bank) → (IsClearing p → ⊥) → coord.is_busy p ≡ true → KnowsBank n bank u.lapsed p → Knows (coord.goes_at l u p found)
-  goes_at (Close y) found fits finds other busy k = closes y y.stage found fits (λ e. finds (ap (close.asks_at y) e)) other busy k.knows k.empty
-  goes_at Done found fits finds other busy k = absurd (cc)
-  goes_at p found fits finds other busy k = by_event l u found Knows p (λ e may. grind arith)
-
-pub lead_goes : (l : Layout) (c : Coordinating) (n bank found : ℕ) → n + bank < 2 ^ 64 → (coord.asks l c ≡ Load cell.Bank → found ≡ bank) → (IsClearing c.stage → ⊥) → coord.is_busy c.stage ≡ true → KnowsBank n bank c.lapsed c.stage → KnowsBank n bank (coord.goes l c found).lapsed (coord.goes l c found).stage
+pub lead_goes : (l : Layout) (c : Coordinating) (n bank found : ℕ) → n + bank < 2 ^ 64 → (coord.asks l c ≡ Load Cell.Bank → found ≡ bank) → (IsClearing c.stage → ⊥) → coord.is_busy c.stage ≡ true → KnowsBank n bank c.lapsed c.stage → KnowsBank n bank (coord.goes l c found).lapsed (coord.goes l c found).stage
 lead_goes l c n bank found fits finds other busy k = record { knows = grind arith; empty = grind arith }
 
 -- By the store into the bank what it has loaded has lapsed, and nothing is left there.
@@ -62,15 +43,15 @@ pub lead_clears : (l : Layout) (c : Coordinating) (n bank found : ℕ) → IsCle
 lead_clears l c n bank found is k = grind arith
 
 -- what it asks for there
-pub asks_clearing : (l : Layout) (c : Coordinating) (p : CoordStage) → IsClearing p → coord.asks_at l c p ≡ Store cell.Bank 0
+pub asks_clearing : (l : Layout) (c : Coordinating) (p : CoordStage) → IsClearing p → coord.asks_at l c p ≡ Store Cell.Bank 0
 asks_clearing l c p is = grind arith
 
 -- Where a cycle is marked and the world runs, the bank may change.
 
 runs_close : (y : close.Closing) (p : CloseStage) → close.is_marking p ≡ true → ((phase : RunPhase) → leading.close_post p ≡ Stopped phase → ⊥) → ⊥
-runs_close y close_stage.StorePhase on runs = absurd (cc)
-runs_close y close_stage.Ended on runs = absurd (cc)
-runs_close y _ on runs = runs run.Mark refl
+runs_close y CloseStage.StorePhase on runs = absurd (cc)
+runs_close y CloseStage.Ended on runs = absurd (cc)
+runs_close y _ on runs = runs RunPhase.Mark refl
 
 pub may_add : (p : CoordStage) → leading.Marks p → ((phase : RunPhase) → leading.post_at p ≡ Stopped phase → ⊥) → (n bank then lapsed : ℕ) → KnowsBank n bank lapsed p → KnowsBank n then lapsed p
 may_add p on runs n bank then lapsed k = grind (arith, runs_close)

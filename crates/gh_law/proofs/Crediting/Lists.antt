@@ -1,35 +1,19 @@
 -- Credit balances after every legal list: by each step what is earned, what is spent, what has lapsed and what is in the bank change together; so do what is spent and what a processor has drawn; and so do what a worker has scanned and what it has still to hand over.
 use Rattle.std.proofs.Common.{◌≡◌, ◌≢◌, inl, inr, ℕ, ◌+◌, ◌^◌, ◌<◌, ◌≤◌, ◌==◌, Bool, true, false, refl, sym, ap, subst, ◌∙◌, arith, List, [], ◌∷◌, Option, None}
-use Rattle.gh_base.specs.declared.cell.Cell.TheVariants as cell
+use Rattle.gh_law.proofs.Vocabulary.{acks_of, AcksAlone, Actor, Add, Ask, asks, asks_by_sweep, at, Begins, CalmWorkersMarkNothing, Cell, cell_of, Coordinating, CreditStands, done_by, drawn_by, earned_in, effect, Entry, handed_by, IsAssisting, IsCalm, IsSettled, IsStopped, KeepsIt, lapsed_by, lapsed_in, left_among, left_at, Legal, Load, Mark, marks_or_not, nat_tests, Op, other, party_of, PhasesStand, Processor, processor_kind, ProcessorWritesItsOwn, scanned_in, seats_of, Setup, spent_among, spent_at, spent_in, started, Store, Swap, takes, those, words, WorkersWriteTheirOwn, Working}
 use Rattle.gh_coord.specs.Handshake as leading
 use Rattle.gh_coord.specs.Listing as coord
-use Rattle.gh_credit.specs.Drawing.{drawn_by}
-use Rattle.gh_credit.specs.Earning.{handed_by}
-use Rattle.gh_mutator.specs.Listing.{takes}
-use Rattle.gh_mutator.specs.ProcessorPlaces.{party_of}
 use Rattle.gh_mutator_writes.specs.Spending.{ProcessorsSpend}
 use Rattle.gh_mutator.specs.Spending.{spent_of}
-use Rattle.gh_mutator.specs.Running.{IsAssisting}
-use Rattle.gh_phase.specs.declared.view.RunPhase.TheVariants.{Mark}
 use Rattle.gh_phase.specs.declared.view.View.{View}
 use Rattle.gh_sweep.specs.Listing as sweep
 use Rattle.gh_worker.specs.Earning.{WorkersEarn}
 use Rattle.gh_worker.specs.Listing as worker
 use Rattle.gh_worker.specs.Works.{words_done}
-use Rattle.gh_worker.specs.Writing.{AcksAlone, CalmWorkersMarkNothing, IsCalm}
-use Rattle.gh_lists.specs.declared.handshake.Actor.TheVariants as actor
-use Rattle.gh_law.specs.Credit.{at, CreditStands, earned_in, IsSettled, lapsed_by, lapsed_in, left_among, left_at, spent_among, spent_at, spent_in}
-use Rattle.gh_lists.specs.Handshake.{Setup}
-use Rattle.gh_law.specs.Phases.{IsStopped, PhasesStand}
-use Rattle.gh_holds.specs.Below.{done_by, scanned_in}
 use Rattle.gh_lists.specs.Waits.{WorkersRest}
-use Rattle.gh_law.proofs.Vocabulary.{acks_of, Actor, Add, Ask, asks, Begins, cell_of, Coordinating, effect, Entry, KeepsIt, Legal, Load, nat_tests, Op, Processor, processor_kind, ProcessorWritesItsOwn, seats_of, started, Store, Swap, those, words, WorkersWriteTheirOwn, Working}
-use Rattle.gh_lists.specs.Sweeping.{asks_by_sweep}
 use Rattle.gh_law.proofs.Crediting.Assisting.{assisting_knows, marks_phase}
 use Rattle.gh_law.proofs.Crediting.Bank.{draws_bank, DrawsOnBank, IsBeside, IsClearing, lead_beside, leaves_bank, LeavesBank, processor_beside, sweep_beside, worker_beside}
 use Rattle.gh_law.proofs.Crediting.Lead.{asks_clearing, KnowsBank, lead_clears, lead_goes, may_add, off_marks}
-use Rattle.gh_lists.specs.Seats.{other}
-use Rattle.gh_lists.specs.Leaving.{marks_or_not}
 use Rattle.gh_lists.specs.Steps as seats
 use Rattle.gh_lists.specs.Sums.{total_at, total_has, total_none, total_same}
 
@@ -53,17 +37,17 @@ module _ (setup : Setup) (cited : Cited setup) where
   who es a = at setup es a
 
   abbrev bank : List (Entry Op) → ℕ
-  bank es = words setup es cell.Bank
+  bank es = words setup es Cell.Bank
 
   record Balanced (es : List (Entry Op)) (c : Coordinating) : Type 0 where
     earned : earned_in es ≡ spent_in es + lapsed_in es + bank es
     drawn : spent_in es ≡ spent_among (who es) (seats_of setup.layout)
     knows : KnowsBank (lapsed_in es) (bank es) c.lapsed c.stage
     scanned : scanned_in setup es ≡ earned_in es + left_among (who es) (seats_of setup.layout)
-    each : (a : ℕ) (w : Working) → who es a ≡ actor.Marks w → w.earned ≤ earned_in es
+    each : (a : ℕ) (w : Working) → who es a ≡ Actor.Marks w → w.earned ≤ earned_in es
 
   abbrev Balance : List (Entry Op) → Type 0
-  Balance es = (c : Coordinating) → who es n ≡ actor.Leads c → Balanced es c
+  Balance es = (c : Coordinating) → who es n ≡ Actor.Leads c → Balanced es c
 
   -- before the first step
 
@@ -73,7 +57,7 @@ module _ (setup : Setup) (cited : Cited setup) where
   first_spent : (a : ℕ) → spent_at (who [] a) ≡ 0
   first_spent a = grind arith
 
-  first_earned : (a : ℕ) (w : Working) → who [] a ≡ actor.Marks w → w.earned ≤ 0
+  first_earned : (a : ℕ) (w : Working) → who [] a ≡ Actor.Marks w → w.earned ≤ 0
   first_earned a w is = grind arith
 
   first : Balance []
@@ -126,7 +110,7 @@ module _ (setup : Setup) (cited : Cited setup) where
       none : left_at x ≡ 0
       none_then : left_at y ≡ 0
       done : done_by setup.layout x e.found ≡ 0
-      not_marks : (w : Working) → y ≡ actor.Marks w → ⊥
+      not_marks : (w : Working) → y ≡ Actor.Marks w → ⊥
       counts : spent_at y ≡ spent_at x + drawn_by e.ask e.found
       earned_same : earned_in (e ∷ es) ≡ earned_in es
 
@@ -144,14 +128,14 @@ module _ (setup : Setup) (cited : Cited setup) where
       scanned_same : scanned_in setup (e ∷ es) ≡ scanned_in setup es
       scanned_same = let d : done_by setup.layout (who es e.actor) e.found ≡ 0 = ap (λ (z : Actor). done_by setup.layout z e.found) step.is ∙ step.done in omega (arith, d)
 
-      each_then : (c : Coordinating) → who es n ≡ actor.Leads c → (a : ℕ) (w : Working) → who (e ∷ es) a ≡ actor.Marks w → w.earned ≤ earned_in (e ∷ es)
+      each_then : (c : Coordinating) → who es n ≡ Actor.Leads c → (a : ℕ) (w : Working) → who (e ∷ es) a ≡ Actor.Marks w → w.earned ≤ earned_in (e ∷ es)
       each_then c led a w at_a = go (e.actor == a) refl where
         go : (t : Bool) → (e.actor == a) ≡ t → w.earned ≤ earned_in (e ∷ es)
         go true e_is = absurd (step.not_marks w (sym step.then ∙ ap (who (e ∷ es)) (let q = e_is in grind (arith, nat_tests)) ∙ at_a))
         go false e_is = let le = (was c led).each a w (sym (other setup e es a e_is) ∙ at_a) in let same = step.earned_same in omega (arith, le, same)
 
       -- what is spent, what lapses and what is in the bank change together
-      balances : (c d : Coordinating) → who es n ≡ actor.Leads c → spent_in (e ∷ es) + lapsed_in (e ∷ es) + bank (e ∷ es) ≡ spent_in es + lapsed_in es + bank es → KnowsBank (lapsed_in (e ∷ es)) (bank (e ∷ es)) d.lapsed d.stage → Balanced (e ∷ es) d
+      balances : (c d : Coordinating) → who es n ≡ Actor.Leads c → spent_in (e ∷ es) + lapsed_in (e ∷ es) + bank (e ∷ es) ≡ spent_in es + lapsed_in es + bank es → KnowsBank (lapsed_in (e ∷ es)) (bank (e ∷ es)) d.lapsed d.stage → Balanced (e ∷ es) d
       balances c d led all k =
           let w = was c led in
           let a = w.earned in
@@ -177,7 +161,7 @@ module _ (setup : Setup) (cited : Cited setup) where
 
     -- a processor's step
 
-    module _ (m : Processor) (x : seats.RunsIt setup e es m) (c : Coordinating) (led : who es n ≡ actor.Leads c) where
+    module _ (m : Processor) (x : seats.RunsIt setup e es m) (c : Coordinating) (led : who es n ≡ Actor.Leads c) where
       pb : Balanced es c
       pb = was c led
 
@@ -212,18 +196,18 @@ module _ (setup : Setup) (cited : Cited setup) where
           let then = cited.spend.spends setup.layout setup.shapes begun e.found x.sound_then x.busy (omega (arith, same, a, b, f, le, first, most)) in
           omega (arith, same, then, first)
 
-      no_work : drawn_by e.ask e.found ≤ bank es → earned_in (e ∷ es) ≡ earned_in es → StepsWithoutWork (actor.Runs m) (actor.Runs (takes setup.layout setup.shapes begun e.found))
+      no_work : drawn_by e.ask e.found ≤ bank es → earned_in (e ∷ es) ≡ earned_in es → StepsWithoutWork (Actor.Runs m) (Actor.Runs (takes setup.layout setup.shapes begun e.found))
       no_work most same = grind (arith, count)
 
       runs_beside : IsBeside (asks setup.layout begun) → Balanced (e ∷ es) c
       runs_beside q =
           let s = stays_by _ x.asked q in
           let none = none_drawn s in
-          balances (actor.Runs m) (actor.Runs (takes setup.layout setup.shapes begun e.found)) (no_work (omega (arith, none)) s.earned) c c led (all_same s) (known s c pb.knows)
+          balances (Actor.Runs m) (Actor.Runs (takes setup.layout setup.shapes begun e.found)) (no_work (omega (arith, none)) s.earned) c c led (all_same s) (known s c pb.knows)
 
       -- A draw: it assists, so the coordinator marks a cycle, and the world is not stopped.
       module _ (d : DrawsOnBank begun (asks setup.layout begun)) where
-        draw_is : e.ask ≡ Swap cell.Bank d.old d.new
+        draw_is : e.ask ≡ Swap Cell.Bank d.old d.new
         draw_is = x.asked ∙ d.is
 
         assists_before : (o : Option Op) → MayBegin o → IsAssisting (started (processor_kind setup.shapes setup.layout) o m).task → IsAssisting m.task
@@ -233,7 +217,7 @@ module _ (setup : Setup) (cited : Cited setup) where
         assists = assists_before e.begun legal.1.begins d.assists
 
         runs_on : IsStopped c → ⊥
-        runs_on stopped = let no : Swap cell.Bank d.old d.new ≡ Load cell.Phase = sym draw_is ∙ ((cited.phases (e ∷ es) legal).still e es c (inl refl) led stopped (let lt = x.seat in λ end. omega (arith, lt, end))).asks in cc
+        runs_on stopped = let no : Swap Cell.Bank d.old d.new ≡ Load Cell.Phase = sym draw_is ∙ ((cited.phases (e ∷ es) legal).still e es c (inl refl) led stopped (let lt = x.seat in λ end. omega (arith, lt, end))).asks in cc
 
         marks_on : leading.Marks c.stage
         marks_on =
@@ -244,15 +228,15 @@ module _ (setup : Setup) (cited : Cited setup) where
 
         draws_on : Balanced (e ∷ es) c
         draws_on =
-            let there : e.found ≡ bank es = found_is (Swap cell.Bank d.old d.new) draw_is in
-            let drawn_is : drawn_by e.ask e.found ≡ drawn_by (Swap cell.Bank d.old d.new) (bank es) = ap (λ (q : Ask). drawn_by q e.found) draw_is ∙ ap (drawn_by (Swap cell.Bank d.old d.new)) there in
-            let bank_is : bank (e ∷ es) ≡ effect (words setup es) (Swap cell.Bank d.old d.new) cell.Bank = ap (λ (q : Ask). effect (words setup es) q cell.Bank) draw_is in
+            let there : e.found ≡ bank es = found_is (Swap Cell.Bank d.old d.new) draw_is in
+            let drawn_is : drawn_by e.ask e.found ≡ drawn_by (Swap Cell.Bank d.old d.new) (bank es) = ap (λ (q : Ask). drawn_by q e.found) draw_is ∙ ap (drawn_by (Swap Cell.Bank d.old d.new)) there in
+            let bank_is : bank (e ∷ es) ≡ effect (words setup es) (Swap Cell.Bank d.old d.new) Cell.Bank = ap (λ (q : Ask). effect (words setup es) q Cell.Bank) draw_is in
             let falls = draws_bank (words setup es) d.old d.new d.falls in
             let handed_none : handed_by e.ask ≡ 0 = ap handed_by draw_is in
             let lapsed_none : lapsed_by e.ask e.found ≡ 0 = ap (λ (q : Ask). lapsed_by q e.found) draw_is in
             let lapsed_same : lapsed_in (e ∷ es) ≡ lapsed_in es = omega (arith, lapsed_none) in
             let k = may_add c.stage marks_on (λ phase stopped. runs_on (phase, stopped)) (lapsed_in es) (bank es) (bank (e ∷ es)) c.lapsed pb.knows in
-            balances (actor.Runs m) (actor.Runs (takes setup.layout setup.shapes begun e.found)) (no_work (omega (arith, drawn_is, falls)) (omega (arith, handed_none))) c c led
+            balances (Actor.Runs m) (Actor.Runs (takes setup.layout setup.shapes begun e.found)) (no_work (omega (arith, drawn_is, falls)) (omega (arith, handed_none))) c c led
             (omega (arith, drawn_is, bank_is, falls, lapsed_same))
             (subst (λ (i : ℕ). KnowsBank i (bank (e ∷ es)) c.lapsed c.stage) (sym lapsed_same) k)
 
@@ -264,7 +248,7 @@ module _ (setup : Setup) (cited : Cited setup) where
     by_lead : (c : Coordinating) → seats.LeadsIt setup e es c → Balance (e ∷ es)
     by_lead c x d led = subst (Balanced (e ∷ es)) then (elim (lead_beside setup.layout c c.stage) [ inl y ↦ going y | inr y ↦ clearing y ]) where
       then : coord.goes setup.layout c e.found ≡ d
-      then = let both : actor.Leads (coord.goes setup.layout c e.found) ≡ actor.Leads d = sym x.then ∙ led in cc
+      then = let both : Actor.Leads (coord.goes setup.layout c e.found) ≡ Actor.Leads d = sym x.then ∙ led in cc
 
       b : Balanced es c
       b = was c x.is
@@ -272,28 +256,28 @@ module _ (setup : Setup) (cited : Cited setup) where
       fits : lapsed_in es + bank es < 2 ^ 64
       fits = let e1 = b.earned in let e2 = b.scanned in let e3 = cited.few es legal.0 in omega (arith, e1, e2, e3)
 
-      was_at : who es e.actor ≡ actor.Leads c
+      was_at : who es e.actor ≡ Actor.Leads c
       was_at = ap (who es) x.seat ∙ x.is
 
-      now_at : who (e ∷ es) e.actor ≡ actor.Leads (coord.goes setup.layout c e.found)
+      now_at : who (e ∷ es) e.actor ≡ Actor.Leads (coord.goes setup.layout c e.found)
       now_at = ap (who (e ∷ es)) x.seat ∙ x.then
 
       going : IsBeside (coord.asks setup.layout c) → Balanced (e ∷ es) (coord.goes setup.layout c e.found)
       going y =
           let s = stays_by (coord.asks setup.layout c) x.asked y in
-          let finds : coord.asks setup.layout c ≡ Load cell.Bank → e.found ≡ bank es = λ is. x.found ∙ ap (λ (q : Ask). words setup es (cell_of q)) is in
+          let finds : coord.asks setup.layout c ≡ Load Cell.Bank → e.found ≡ bank es = λ is. x.found ∙ ap (λ (q : Ask). words setup es (cell_of q)) is in
           let not_clearing : IsClearing c.stage → ⊥ = λ z. subst IsBeside (asks_clearing setup.layout c c.stage z) y in
           let k = lead_goes setup.layout c (lapsed_in es) (bank es) e.found fits finds not_clearing x.busy b.knows in
-          let no_work : StepsWithoutWork (actor.Leads c) (actor.Leads (coord.goes setup.layout c e.found)) = record { is = was_at; then = now_at; none = refl; none_then = refl; done = refl; not_marks = λ w is. cc; counts = (let none = none_drawn s in omega (arith, none)); earned_same = s.earned } in
-          balances (actor.Leads c) (actor.Leads (coord.goes setup.layout c e.found)) no_work c (coord.goes setup.layout c e.found) x.is (all_same s) (known s (coord.goes setup.layout c e.found) k)
+          let no_work : StepsWithoutWork (Actor.Leads c) (Actor.Leads (coord.goes setup.layout c e.found)) = record { is = was_at; then = now_at; none = refl; none_then = refl; done = refl; not_marks = λ w is. cc; counts = (let none = none_drawn s in omega (arith, none)); earned_same = s.earned } in
+          balances (Actor.Leads c) (Actor.Leads (coord.goes setup.layout c e.found)) no_work c (coord.goes setup.layout c e.found) x.is (all_same s) (known s (coord.goes setup.layout c e.found) k)
 
       clearing : IsClearing c.stage → Balanced (e ∷ es) (coord.goes setup.layout c e.found)
       clearing y =
-          let asks_is : e.ask ≡ Store cell.Bank 0 = x.asked ∙ asks_clearing setup.layout c c.stage y in
+          let asks_is : e.ask ≡ Store Cell.Bank 0 = x.asked ∙ asks_clearing setup.layout c c.stage y in
           let found_is : e.found ≡ bank es = x.found ∙ ap (λ (q : Ask). words setup es (cell_of q)) (asks_clearing setup.layout c c.stage y) in
           let k = lead_clears setup.layout c (lapsed_in es) (bank es) e.found y b.knows in
           let lapsed_now : lapsed_by e.ask e.found ≡ bank es = ap (λ (q : Ask). lapsed_by q e.found) asks_is ∙ found_is in
-          let bank_now : bank (e ∷ es) ≡ 0 = ap (λ (q : Ask). effect (words setup es) q cell.Bank) asks_is in
+          let bank_now : bank (e ∷ es) ≡ 0 = ap (λ (q : Ask). effect (words setup es) q Cell.Bank) asks_is in
           let earned_now : handed_by e.ask ≡ 0 = ap handed_by asks_is in
           let spent_now : drawn_by e.ask e.found ≡ 0 = ap (λ (q : Ask). drawn_by q e.found) asks_is in
           let a = b.earned in
@@ -315,13 +299,13 @@ module _ (setup : Setup) (cited : Cited setup) where
               ap (λ (j : ℕ). left_at (who (e ∷ es) j)) (sym end) ∙ ap left_at now_at ∙ sym (ap (λ (j : ℕ). left_at (who es j)) (sym end) ∙ ap left_at was_at)
           left_by i false e_is = ap left_at (other setup e es i e_is)
 
-          each_by : (i : ℕ) (w : Working) → who (e ∷ es) i ≡ actor.Marks w → (t : Bool) → (e.actor == i) ≡ t → w.earned ≤ earned_in es + handed_by e.ask
-          each_by i w at_i true e_is = absurd (let end : e.actor ≡ i = (let q = e_is in grind (arith, nat_tests)) in let no : actor.Leads (coord.goes setup.layout c e.found) ≡ actor.Marks w = sym now_at ∙ ap (who (e ∷ es)) end ∙ at_i in cc)
+          each_by : (i : ℕ) (w : Working) → who (e ∷ es) i ≡ Actor.Marks w → (t : Bool) → (e.actor == i) ≡ t → w.earned ≤ earned_in es + handed_by e.ask
+          each_by i w at_i true e_is = absurd (let end : e.actor ≡ i = (let q = e_is in grind (arith, nat_tests)) in let no : Actor.Leads (coord.goes setup.layout c e.found) ≡ Actor.Marks w = sym now_at ∙ ap (who (e ∷ es)) end ∙ at_i in cc)
           each_by i w at_i false e_is = let le = b.each i w (sym (other setup e es i e_is) ∙ at_i) in omega (arith, le)
 
     -- a worker's step
 
-    module _ (w : Working) (x : seats.WorksIt setup e es w) (c : Coordinating) (led : who es n ≡ actor.Leads c) where
+    module _ (w : Working) (x : seats.WorksIt setup e es w) (c : Coordinating) (led : who es n ≡ Actor.Leads c) where
       wb : Balanced es c
       wb = was c led
 
@@ -368,12 +352,12 @@ module _ (setup : Setup) (cited : Cited setup) where
           let i = handed in
           omega (arith, a, b, d, f, g, h, i)
 
-      each_worker : (a : ℕ) (v : Working) → who (e ∷ es) a ≡ actor.Marks v → w.earned ≤ earned_in es → v.earned ≤ earned_in (e ∷ es)
+      each_worker : (a : ℕ) (v : Working) → who (e ∷ es) a ≡ Actor.Marks v → w.earned ≤ earned_in es → v.earned ≤ earned_in (e ∷ es)
       each_worker a v at_a le = go (e.actor == a) refl where
         go : (t : Bool) → (e.actor == a) ≡ t → v.earned ≤ earned_in es + handed_by e.ask
         go true e_is =
             let end : e.actor ≡ a = (let q = e_is in grind (arith, nat_tests)) in
-            let both : actor.Marks (worker.goes setup.layout w e.found) ≡ actor.Marks v = sym x.then ∙ ap (who (e ∷ es)) end ∙ at_a in
+            let both : Actor.Marks (worker.goes setup.layout w e.found) ≡ Actor.Marks v = sym x.then ∙ ap (who (e ∷ es)) end ∙ at_a in
             let is : worker.goes setup.layout w e.found ≡ v = cc in
             let same : (worker.goes setup.layout w e.found).earned ≡ v.earned = ap (λ (z : Working). z.earned) is in
             let g = earns_so in
@@ -397,12 +381,12 @@ module _ (setup : Setup) (cited : Cited setup) where
           }
 
       -- A hand-over: the coordinator marks a cycle then, and the world is not stopped.
-      module _ (more : ℕ) (is : worker.asks setup.layout w ≡ Add cell.Bank more) (no_sweep : worker.sweep_in w ≡ None) where
-        ask_is : e.ask ≡ Add cell.Bank more
+      module _ (more : ℕ) (is : worker.asks setup.layout w ≡ Add Cell.Bank more) (no_sweep : worker.sweep_in w ≡ None) where
+        ask_is : e.ask ≡ Add Cell.Bank more
         ask_is = x.asked ∙ is
 
         runs : IsStopped c → ⊥
-        runs stopped = let no : Add cell.Bank more ≡ Load cell.Phase = sym ask_is ∙ ((cited.phases (e ∷ es) legal).still e es c (inl refl) led stopped (let lt = x.seat in λ end. omega (arith, lt, end))).asks in cc
+        runs stopped = let no : Add Cell.Bank more ≡ Load Cell.Phase = sym ask_is ∙ ((cited.phases (e ∷ es) legal).still e es c (inl refl) led stopped (let lt = x.seat in λ end. omega (arith, lt, end))).asks in cc
 
         marks : leading.Marks c.stage
         marks = elim (marks_or_not c.stage) [
@@ -417,7 +401,7 @@ module _ (setup : Setup) (cited : Cited setup) where
             let now : handed_by e.ask ≡ more = ap handed_by ask_is in
             let f = cited.few (e ∷ es) legal in
             let g = scanned_then in
-            let bank_now : bank (e ∷ es) ≡ bank es + more = ap (λ (q : Ask). effect (words setup es) q cell.Bank) ask_is ∙ omega (arith, a, now, f, g) in
+            let bank_now : bank (e ∷ es) ≡ bank es + more = ap (λ (q : Ask). effect (words setup es) q Cell.Bank) ask_is ∙ omega (arith, a, now, f, g) in
             let lapsed_now : lapsed_by e.ask e.found ≡ 0 = ap (λ (q : Ask). lapsed_by q e.found) ask_is in
             let spent_now : drawn_by e.ask e.found ≡ 0 = ap (λ (q : Ask). drawn_by q e.found) ask_is in
             let lapsed_same : lapsed_in (e ∷ es) ≡ lapsed_in es = omega (arith, lapsed_now) in
@@ -448,7 +432,7 @@ module _ (setup : Setup) (cited : Cited setup) where
   balance (e ∷ es) legal = by_step e es legal (balance es legal.0) (seats.step setup e es cited.writes legal (cited.keeps es legal.0))
 
   -- while no cycle is marked
-  module _ (es : List (Entry Op)) (legal : Legal (those setup) es) (c : Coordinating) (led : who es n ≡ actor.Leads c) (off : leading.Marks c.stage → ⊥) where
+  module _ (es : List (Entry Op)) (legal : Legal (those setup) es) (c : Coordinating) (led : who es n ≡ Actor.Leads c) (off : leading.Marks c.stage → ⊥) where
     none_at : (a : ℕ) → left_at (who es a) ≡ 0
     none_at a = grind arith
 

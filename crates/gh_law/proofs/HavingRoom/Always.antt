@@ -1,13 +1,7 @@
 -- At every moment: while a cycle is marked there is a buffer with room, and else all have.
 use Rattle.std.proofs.Common.{inl, inr, refl, sym, subst, arith, List}
-use Rattle.gh_room.specs.Room.{BuffersHaveRoom, HasRoom}
-use Rattle.gh_law.specs.Actors.{AllStands}
-use Rattle.gh_law.specs.Room.{RoomStands}
-use Rattle.gh_law.proofs.Vocabulary.{Entry, Op, words}
-use Rattle.gh_lists.specs.Going.{led_then}
-use Rattle.gh_lists.specs.Leaving.{marks_or_not}
+use Rattle.gh_law.proofs.Vocabulary.{AllStands, BuffersHaveRoom, Entry, HasRoom, led_then, marks_or_not, Op, RoomStands, Setup, words}
 use Rattle.gh_law.proofs.HavingRoom.Marked.{marked_has_room}
-use Rattle.gh_lists.specs.Handshake.{Setup}
 
 empty_has_room : HasRoom 0
 empty_has_room = record { free = refl; room = omega arith }

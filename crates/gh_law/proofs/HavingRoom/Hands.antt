@@ -1,16 +1,14 @@
 -- While a cycle is marked each actor has something in hand, or nothing, as its stage says: so it holds one buffer at most.
 use Rattle.std.proofs.Common.{ℕ, Option, arith}
+use Rattle.gh_law.proofs.Vocabulary.{buffers_as_held, Cycle, GlobalFacts, GlobalStage, Held, HoldsBuffer, LeaveStage, MarkFacts, Marking, NewStage, Polling, Processor, StoreFacts, Task, TaskFacts, WaitStage, Working}
 use Rattle.gh_assist.specs.declared.assist.AssistStage.{AssistStage}
 use Rattle.gh_assist.specs.Facts as assisting
-use Rattle.gh_base.specs.Holding.{HoldsBuffer}
-use Rattle.gh_marks.specs.Colours.{buffers_as_held}
-use Rattle.gh_marks.specs.Seats.{InHand}
+use Rattle.gh_marks.specs.Seats.{InHand, Hands}
 use Rattle.gh_mutator.specs.declared.store.Store.{Store}
 use Rattle.gh_mutator.specs.declared.store.StoreStage.{StoreStage}
 use Rattle.gh_poll.specs.MarkFacts.{LeaveFacts, PollFacts, WaitStageFacts}
-use Rattle.gh_mutator.specs.ProcessorMarks.{GlobalFacts, NewFacts, StoreFacts, TaskFacts}
+use Rattle.gh_mutator.specs.ProcessorMarks.{NewFacts}
 use Rattle.gh_worker.specs.MarkFacts as marks
-use Rattle.gh_law.proofs.Vocabulary.{Cycle, GlobalStage, Hands, Held, LeaveStage, MarkFacts, Marking, NewStage, Polling, Processor, Task, WaitStage, Working}
 
 module _ (z : Cycle) (a : ℕ) (s : Marking) where
   abbrev HasSome : Type 0

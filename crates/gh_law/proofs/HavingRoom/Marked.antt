@@ -1,18 +1,9 @@
 -- While a cycle is marked: an object is an entry of one buffer at most and has an address of its own, and each actor holds one buffer at most. So there is a buffer with room that nobody holds.
 use Rattle.std.proofs.Common.{◌≡◌, ℕ, ◌+◌, ◌-◌, ◌*◌, ◌<◌, ◌≤◌, Bool, true, false, ltb, refl, sym, ap, subst, ◌∙◌, arith, List, Option}
-use Rattle.gh_base.specs.Cells.{seats_of}
-use Rattle.gh_base.specs.Holding.{Buffers, HoldsBuffer}
-use Rattle.gh_room.specs.Room.{AreDistinct, AreOfSeats, BuffersHaveRoom}
+use Rattle.gh_law.proofs.Vocabulary.{acks_of, Actor, actors, AllStands, AreDistinct, Arena, AreOfSeats, Buffered, Buffers, buffers_as_held, BuffersHaveRoom, Colour, Coordinating, Entry, Held, HoldsBuffer, IsLed, IsSeated, IsShaded, Marking, nat_tests, Op, processor_kind, RoomStands, seated, seats_of, Setup, state_of, words}
 use Rattle.gh_coord.specs.Handshake as leading
-use Rattle.gh_marks.specs.Colours.{Buffered, buffers_as_held, Colour, IsShaded}
-use Rattle.gh_lists.specs.declared.handshake.Actor.TheVariants as actor
-use Rattle.gh_law.specs.Actors.{AllStands}
 use Rattle.gh_holds.specs.Below.{CycleIsDrawn}
-use Rattle.gh_law.specs.Room.{RoomStands}
-use Rattle.gh_law.proofs.Vocabulary.{acks_of, Actor, actors, Arena, Coordinating, Entry, Held, IsLed, Marking, nat_tests, Op, processor_kind, state_of, words}
-use Rattle.gh_lists.specs.Seats.{IsSeated, seated}
 use Rattle.gh_law.proofs.HavingRoom.Hands.{processor_has, worker_has}
-use Rattle.gh_lists.specs.Handshake.{Setup}
 
 -- a buffered object is of the cycle
 is_shaded : (c : Colour) (b j : ℕ) → c ≡ Buffered b j → IsShaded c
@@ -60,9 +51,9 @@ module _ (setup : Setup) (es : List (Entry Op)) (c : Coordinating) (d : CycleIsD
   works : (a : ℕ) → setup.layout.procs ≤ a → a < acks_of setup.layout → Has a
   works a from below = go (state_of (actors setup) a es) refl (seated setup es a) where
     go : (x : Actor) → state_of (actors setup) a es ≡ x → IsSeated setup.layout a x → Has a
-    go (actor.Runs m) is at = absurd (omega (arith, from, at))
-    go (actor.Marks w) is at = worker_has d.cycle a s w (d.tied.workers a w below is)
-    go (actor.Leads y) is at = absurd (omega (arith, below, at))
+    go (Actor.Runs m) is at = absurd (omega (arith, from, at))
+    go (Actor.Marks w) is at = worker_has d.cycle a s w (d.tied.workers a w below is)
+    go (Actor.Leads y) is at = absurd (omega (arith, below, at))
 
   each : (a : ℕ) → a < seats_of setup.layout → Has a
   each a lt = go (ltb a setup.layout.procs) (ltb a (acks_of setup.layout)) refl refl where

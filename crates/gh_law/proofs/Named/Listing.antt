@@ -1,15 +1,9 @@
 -- Names listed by the heap words of their objects: as many as the words that pass, each once, and in sum what the words are in sum.
-use Rattle.std.proofs.Common.{◌≡◌, ◌≢◌, ℕ, zero, suc, ◌+◌, ◌<◌, ◌≤◌, ◌⊎◌, inl, inr, Bool, true, false, cond, refl, sym, ap, subst, ◌∙◌, arith, List, [], ◌∷◌, ◌++◌, get_or, length}
-use Rattle.std.specs.Prelude.{AllPairs, sum_by}
-use Rattle.std.proofs.lemmas.Bool.{cases_lt}
+use Rattle.std.proofs.Common.{◌≡◌, ◌≢◌, ℕ, zero, suc, ◌+◌, ◌<◌, ◌≤◌, ◌⊎◌, inl, inr, Bool, true, false, cond, refl, sym, ap, subst, ◌∙◌, arith, List, [], ◌∷◌, ◌++◌, get_or, length, AllPairs, sum_by}
 use Rattle.std.proofs.lemmas.List.{length-append}
 use Rattle.std.proofs.lemmas.List.Sums.{sum_by-cons}
-use Rattle.gh_base.specs.declared.value.Name.{Name}
-use Rattle.gh_base.specs.Packing.{bit}
-use Rattle.gh_sweep.specs.Bits.{sum_below}
-use Rattle.gh_sweep.specs.Counts.{count_below}
+use Rattle.gh_law.proofs.Vocabulary.{bit, cases_lt, count_below, Name, sum_below, sum_more, sum_none}
 use Rattle.gh_law.specs.Names.{IsAmong}
-use Rattle.gh_lists.specs.SumsBelow.{sum_more, sum_none}
 
 -- ---- of names
 

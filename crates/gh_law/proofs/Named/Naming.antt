@@ -1,21 +1,13 @@
 -- In the heap that never frees each value names an object that was made.
 use Rattle.std.proofs.Common.{◌≡◌, ℕ, Bool, cond, List, Option, arith}
-use Rattle.gh_base.specs.declared.operation.Op.{Op}
-use Rattle.gh_base.specs.declared.shape.Shape.{Shape}
-use Rattle.gh_base.specs.declared.value.Answer.TheVariants as answer
-use Rattle.gh_base.specs.declared.value.Fault.TheVariants as fault
-use Rattle.gh_base.specs.declared.value.Name.{Name}
+use Rattle.gh_law.proofs.Vocabulary.{Act, acted, Answer, answer_of, answer_of_value, Ever, ever_after, is_number, IsMade, load_answer, Name, next_name, Op, opening_ever, Reach, sets_global, Shape, store_answer, stores_value, takes_answer, with_end, with_object, with_register}
+use Rattle.gh_base.specs.declared.value.Fault.{Fault}
 use Rattle.gh_model.specs.declared.EverValue.{EverValue}
-use Rattle.gh_model.specs.declared.EverValue.TheVariants as ever
-use Rattle.gh_model.specs.Ever.{Ever, Reach, answer_of, ever_after, is_number, load_answer, next_name, opening_ever, sets_global, store_answer, stores_value, takes_answer, answer_of_value, with_end, with_object, with_register}
-use Rattle.gh_heap.specs.Objects.{IsMade}
-use Rattle.gh_mutator.specs.Deeds.{acted}
-use Rattle.gh_mutator.specs.Listing.{Act}
 
 pub record IsNamed (e : Ever) : Type 0 where
-  pub registers : (g d : ℕ) (n : Name) → e.register g d ≡ ever.Ref n → IsMade e.made n
-  pub fields : (m : Name) (k : ℕ) (n : Name) → e.field m k ≡ ever.Ref n → IsMade e.made n
-  pub globals : (k : ℕ) (n : Name) → e.global k ≡ ever.Ref n → IsMade e.made n
+  pub registers : (g d : ℕ) (n : Name) → e.register g d ≡ EverValue.Ref n → IsMade e.made n
+  pub fields : (m : Name) (k : ℕ) (n : Name) → e.field m k ≡ EverValue.Ref n → IsMade e.made n
+  pub globals : (k : ℕ) (n : Name) → e.global k ≡ EverValue.Ref n → IsMade e.made n
 
 -- so what a script reaches was made
 pub reached-made : (e : Ever) → IsNamed e → (n : Name) → Reach e n → IsMade e.made n
@@ -26,7 +18,7 @@ named-opening = record { registers = λ g d n e. absurd (cc); fields = λ m k n 
 
 -- a value that names nothing, or an object that was made
 abbrev Made : Ever → EverValue → Type 0
-Made e x = (n : Name) → x ≡ ever.Ref n → IsMade e.made n
+Made e x = (n : Name) → x ≡ EverValue.Ref n → IsMade e.made n
 
 named-register : (e : Ever) (g d : ℕ) (x : EverValue) → IsNamed e → Made e x → IsNamed (with_register e g d x)
 named-register e g d x h made = grind arith
@@ -46,17 +38,17 @@ module _ (shapes : List Shape) (e : Ever) (h : IsNamed e) where
   stores : (x : EverValue) (k : ℕ) (v : EverValue) → Made e v → IsNamed (stores_value e x k v (store_answer shapes e x k v))
   stores x k v made = grind arith
 
-  sets : (k : ℕ) (v : EverValue) → Made e v → IsNamed (sets_global e k v (cond (is_number v) (answer.Fault fault.Kind) answer.Done))
+  sets : (k : ℕ) (v : EverValue) → Made e v → IsNamed (sets_global e k v (cond (is_number v) (Answer.Fault Fault.Kind) Answer.Done))
   sets k v made = grind arith
 
-  news : (g d t : ℕ) → IsNamed (with_register (with_object shapes e g t) g d (ever.Ref (next_name e g)))
+  news : (g d t : ℕ) → IsNamed (with_register (with_object shapes e g t) g d (EverValue.Ref (next_name e g)))
   news g d t = grind arith
 
-  plain : (g d : ℕ) (x : EverValue) → ((n : Name) → x ≡ ever.Ref n → ⊥) → IsNamed (with_register e g d x)
+  plain : (g d : ℕ) (x : EverValue) → ((n : Name) → x ≡ EverValue.Ref n → ⊥) → IsNamed (with_register e g d x)
   plain g d x none = grind arith
 
   -- what is answered as that heap answers it, or `full`
-  after : (o : Op) (full : Bool) → IsNamed (ever_after shapes e o (cond full answer.Full (answer_of shapes e o)))
+  after : (o : Op) (full : Bool) → IsNamed (ever_after shapes e o (cond full Answer.Full (answer_of shapes e o)))
   after o full = grind (arith, loads, named-end, named-register, news, plain, sets, stores, takes)
 
   pub named-acted : (x : Option Act) → IsNamed (acted shapes e x)

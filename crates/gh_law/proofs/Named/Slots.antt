@@ -1,20 +1,7 @@
 -- Where an object stands its slot lies in the arena, and the bytes of the slot are those that the page words say; and the names of the alloc bits that are set.
-use Rattle.std.proofs.Common.{◌≡◌, ◌≢◌, ℕ, ◌+◌, ◌*◌, ◌<◌, ◌≤◌, ◌⊎◌, Bool, true, false, cond, refl, sym, ap, ◌∙◌, arith}
-use Rattle.std.specs.Prelude.{◌/◌, ◌%◌}
+use Rattle.std.proofs.Common.{◌≡◌, ◌≢◌, ℕ, ◌+◌, ◌*◌, ◌<◌, ◌≤◌, ◌⊎◌, Bool, true, false, cond, refl, sym, ap, ◌∙◌, arith, ◌/◌, ◌%◌}
 use Rattle.std.proofs.lemmas.Bool.{eqb-true}
-use Rattle.gh_base.specs.declared.value.Name.{Name}
-use Rattle.gh_base.specs.declared.pack.SpanHead.{SpanHead}
-use Rattle.gh_base.specs.Rows.{alloc_words, Row, row_bit}
-use Rattle.gh_class.specs.Classes.{IsSizeClass, pages_of, slot_of, slots_of}
-use Rattle.gh_class.specs.declared.class.SizeClass.{SizeClass}
-use Rattle.gh_class.specs.declared.class.SizeClass.TheVariants as size
-use Rattle.gh_heap.specs.Objects.{IsMade}
-use Rattle.gh_heap.specs.Spans.{FitsClass, is_own_class, IsSlotOf, number_of_class, slot_count, slot_size}
-use Rattle.gh_state.specs.Slots.{slot_row, SlotsAreRead}
-use Rattle.gh_sweep.specs.Counts.{is_set}
-use Rattle.gh_sweep.specs.Listing.{slot_bytes, slot_bytes_of}
-use Rattle.gh_lists.specs.Processors.{IsPlacedAt}
-use Rattle.gh_base.specs.Cells.{Words}
+use Rattle.gh_law.proofs.Vocabulary.{alloc_words, FitsClass, is_own_class, is_set, IsMade, IsPlacedAt, IsSizeClass, IsSlotOf, Name, number_of_class, pages_of, Row, row_bit, SizeClass, slot_bytes, slot_bytes_of, slot_count, slot_of, slot_row, slot_size, slots_of, SlotsAreRead, SpanHead, Words}
 
 -- what the table of size classes says
 pub record Classes : Type 0 where
@@ -48,7 +35,7 @@ module _ (classes : Classes) where
   large_lies pages i some lt = grind arith
 
   -- by its class
-  lies_by : (class : SizeClass) (pages i : ℕ) → 1 ≤ pages → IsSizeClass class → (class ≢ size.Large → pages ≡ pages_of (number_of_class class)) → i < cond (is_own_class class) 1 (slots_of (number_of_class class)) →
+  lies_by : (class : SizeClass) (pages i : ℕ) → 1 ≤ pages → IsSizeClass class → (class ≢ SizeClass.Large → pages ≡ pages_of (number_of_class class)) → i < cond (is_own_class class) 1 (slots_of (number_of_class class)) →
       Lies pages i (cond (is_own_class class) (1024 * pages) (slot_of (number_of_class class) / 8)) (slot_bytes_of class pages)
   lies_by class pages i some fit small inside = grind (arith, large_lies, small_lies)
 

@@ -1,20 +1,18 @@
 -- After every list each worker and the coordinator knows its numbers, so each step of theirs is on a word that there is, whatever was found.
 use Rattle.std.proofs.Common.{◌≡◌, ℕ, ◌==◌, Bool, cond, Option, subst, arith, List, [], ◌∷◌}
-use Rattle.gh_assist.specs.Within.{TakingAndScanningAreWithin}
+use Rattle.gh_law.proofs.Vocabulary.{Actor, actor_takes, actors, cell_of, Entry, InRange, IsInLimits, Kind, Layout, Op, Setup, start, started, state_of}
 use Rattle.gh_coord.specs.Listing as coord
 use Rattle.gh_coord.specs.Within.{StandsWithin, TheCoordinatorStaysWithin}
 use Rattle.gh_worker.specs.Listing as worker
-use Rattle.gh_lists.specs.declared.handshake.Actor.TheVariants as actor
-use Rattle.gh_lists.specs.Handshake.{start, actor_takes, Setup}
-use Rattle.gh_law.proofs.Vocabulary.{Actor, actors, cell_of, Entry, InRange, IsInLimits, Kind, Layout, Op, started, state_of}
-use Rattle.gh_law.proofs.Within.Workers.{FitsWhole, goes_on, within}
+use Rattle.gh_worker.specs.Routine.{WorkersStayWithin}
+use Rattle.gh_worker.specs.Sound.{StandsWithin as WorkerWithin}
 
 abbrev FitsIn : Layout → Actor → Type 0
-FitsIn l (actor.Runs m) = Unit {0}
-FitsIn l (actor.Marks w) = FitsWhole l w
-FitsIn l (actor.Leads c) = StandsWithin l c
+FitsIn l (Actor.Runs m) = Unit {0}
+FitsIn l (Actor.Marks w) = WorkerWithin l w
+FitsIn l (Actor.Leads c) = StandsWithin l c
 
-module _ (k : TakingAndScanningAreWithin) (leads : TheCoordinatorStaysWithin) (setup : Setup) (limits : IsInLimits setup.layout) where
+module _ (works : WorkersStayWithin) (leads : TheCoordinatorStaysWithin) (setup : Setup) (limits : IsInLimits setup.layout) where
   abbrev all : Kind Actor Op
   all = actors setup
 
@@ -31,9 +29,9 @@ module _ (k : TakingAndScanningAreWithin) (leads : TheCoordinatorStaysWithin) (s
   begun o m f = grind arith
 
   taken : (found : ℕ) (m : Actor) → IsFit m → IsFit (actor_takes setup.shapes setup.layout m found)
-  taken found (actor.Runs m) f = tt
-  taken found (actor.Marks w) f = goes_on k setup.layout w found f
-  taken found (actor.Leads c) f = leads.stays setup.layout c found f
+  taken found (Actor.Runs m) f = tt
+  taken found (Actor.Marks w) f = works.stays setup.layout w found f
+  taken found (Actor.Leads c) f = leads.stays setup.layout c found f
 
   next : (e : Entry Op) (m : Actor) (b : Bool) → IsFit m → IsFit (cond b (actor_takes setup.shapes setup.layout (started all e.begun m) e.found) m)
   next e m b f = grind (arith, begun, taken)
@@ -42,8 +40,8 @@ module _ (k : TakingAndScanningAreWithin) (leads : TheCoordinatorStaysWithin) (s
   fits [] a = opens a
   fits (e ∷ es) a = next e (state_of all a es) (e.actor == a) (fits es a)
 
-  pub worker_asks : (es : List (Entry Op)) (a : ℕ) (w : worker.Working) → state_of all a es ≡ actor.Marks w → InRange setup.layout (cell_of (worker.asks setup.layout w))
-  worker_asks es a w is = within k setup.layout w (subst IsFit is (fits es a))
+  pub worker_asks : (es : List (Entry Op)) (a : ℕ) (w : worker.Working) → state_of all a es ≡ Actor.Marks w → InRange setup.layout (cell_of (worker.asks setup.layout w))
+  worker_asks es a w is = works.within setup.layout w (subst IsFit is (fits es a))
 
-  pub lead_asks : (es : List (Entry Op)) (a : ℕ) (c : coord.Coordinating) → state_of all a es ≡ actor.Leads c → InRange setup.layout (cell_of (coord.asks setup.layout c))
+  pub lead_asks : (es : List (Entry Op)) (a : ℕ) (c : coord.Coordinating) → state_of all a es ≡ Actor.Leads c → InRange setup.layout (cell_of (coord.asks setup.layout c))
   lead_asks es a c is = leads.within setup.layout c (subst IsFit is (fits es a))

@@ -1,12 +1,9 @@
 -- The next step of a processor is on a word that there is, by its rights.
 use Rattle.std.proofs.Common.{◌≡◌, ℕ, false, refl, sym, ap, subst, ◌∙◌, inr, List, Option, Some, None, ◌<◌}
-use Rattle.gh_mutator_heap.specs.Facts.{MayBegin}
-use Rattle.gh_lists.specs.declared.handshake.Actor.TheVariants as actor
-use Rattle.gh_law.proofs.Vocabulary.{actors, Arena, arena, asks, Begins, by, cell_of, Entry, ProcessorFacts, Good, HasState, Heap, InRange, is_busy, is_busy_at, IsAsItShould, Kind, made_by, Op, Processor, processor_at, processor_kind, ShapesAreGood, started, state_of, those, view}
+use Rattle.gh_law.proofs.Vocabulary.{Actor, actors, Arena, arena, asks, Begins, by, cell_of, Entry, Given, Good, HasState, Heap, InRange, is_busy_at, IsAsItShould, Kind, Known, made_by, MayBegin, Op, Processor, processor_at, processor_kind, ProcessorFacts, runs_are, setup_for, ShapesAreGood, started, state_of, those, view}
+use Rattle.gh_lists.specs.Handshake.{is_busy}
 use Rattle.gh_lists.specs.Beginning.{may_parts}
-use Rattle.gh_holds.specs.Below.{Known, may-begin, state_by}
-use Rattle.gh_lists.specs.Resting.{runs_are}
-use Rattle.gh_lists.specs.Lists.{Given, setup_for}
+use Rattle.gh_holds.specs.Below.{may-begin, state_by}
 
 module _ (given : Given) (good : ShapesAreGood given.shapes) (known : Known) where
   abbrev z : Arena
@@ -19,7 +16,7 @@ module _ (given : Given) (good : ShapesAreGood given.shapes) (known : Known) whe
     abbrev m : Processor
     m = processor_at (setup_for given) es a
 
-    here : state_of (actors (setup_for given)) a es ≡ actor.Runs m
+    here : state_of (actors (setup_for given)) a es ≡ Actor.Runs m
     here = runs_are (setup_for given) es a seat
 
     begins_now : (p : Op) → o ≡ Some p → Begins (those (setup_for given)) a es (Some p)

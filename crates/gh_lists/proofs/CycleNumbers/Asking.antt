@@ -1,23 +1,35 @@
 -- A processor of the heap asks for a cycle once in a wait, at its begin, and once behind the making of an object: so a `new` asks twice at the most, a `gc` once, and no other operation.
 use Rattle.std.proofs.Common.{◌≡◌, ℕ, suc, ◌≤◌, ◌⊎◌, Bool, true, cond, refl, arith, List, Option}
-use Rattle.gh_base.specs.declared.operation.Op.TheVariants as op
-use Rattle.gh_mutator.specs.declared.task.Task.TheVariants as task
-use Rattle.gh_poll.specs.declared.wait.WaitStage.TheVariants as waiting
+use Rattle.gh_lists.proofs.Vocabulary.{Ask, asked_after, asks_for_one, IsWanting, IsWritten, Layout, Op, Processor, WritesOf}
 use Rattle.gh_mutator.specs.New as new
 use Rattle.gh_poll.specs.Wait as wait
-use Rattle.gh_lists.specs.Numbers.{asks_for_one}
-use Rattle.gh_lists.proofs.Vocabulary.{after_assist, after_gc, after_leave, after_poll, Ask, asked_after, asks, Assist, Assisting, follows, Found, IsWanting, IsWritten, Layout, Leaving, Name, NewStage, Op, Place, Placing, Polling, Processor, Search, Seeking, Shape, takes, takes_at, Task, Then, Wait, WaitStage, Want, Wanted, WritesOf}
+use Rattle.gh_mutator.specs.New.{after_assist}
+use Rattle.gh_mutator.specs.Listing.{after_gc, after_leave, after_poll, asks, follows, takes, takes_at}
+use Rattle.gh_mutator.specs.declared.new.NewStage.TheVariants.{Assist, Place, Search, Wait, Want}
+use Rattle.gh_assist.specs.Listing.{Assisting}
+use Rattle.gh_alloc.specs.declared.sought.Found.{Found}
+use Rattle.gh_poll.specs.Leave.{Leaving}
+use Rattle.gh_base.specs.declared.value.Name.{Name}
+use Rattle.gh_mutator.specs.declared.new.NewStage.{NewStage}
+use Rattle.gh_alloc.specs.Place.{Placing}
+use Rattle.gh_poll.specs.Poll.{Polling}
+use Rattle.gh_alloc.specs.Search.{Seeking}
+use Rattle.gh_base.specs.declared.shape.Shape.{Shape}
+use Rattle.gh_mutator.specs.declared.task.Task.{Task}
+use Rattle.gh_mutator.specs.declared.step.Then.{Then}
+use Rattle.gh_poll.specs.declared.wait.WaitStage.{WaitStage}
+use Rattle.gh_mutator.specs.declared.new.Wanted.{Wanted}
 
 -- an operation asks for so many cycles at the most
 abbrev pub most_asks : Op → ℕ
-most_asks (op.New g d t) = 2
-most_asks (op.Gc g) = 1
+most_asks (Op.New g d t) = 2
+most_asks (Op.Gc g) = 1
 most_asks _ = 0
 
 -- how often it may still ask: at rest it may not; an operation that begins lets it ask so often; and whenever it asks, less is left
 
 abbrev left_wait : WaitStage → ℕ
-left_wait waiting.Want = 1
+left_wait WaitStage.Want = 1
 left_wait _ = 0
 
 abbrev left_new : NewStage → ℕ
@@ -28,8 +40,8 @@ left_new (Want n) = 1
 left_new (Assist n x) = 0
 
 abbrev left_at : Task → ℕ
-left_at (task.New x) = left_new x.stage
-left_at (task.Gc g w) = left_wait w.stage
+left_at (Task.New x) = left_new x.stage
+left_at (Task.Gc g w) = left_wait w.stage
 left_at _ = 0
 
 abbrev pub left : Processor → ℕ

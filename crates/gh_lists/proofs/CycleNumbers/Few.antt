@@ -1,17 +1,11 @@
 -- How few cycles there are: no more than two for each statement that may ask for one, and the last.
 use Rattle.std.proofs.Common.{◌≡◌, ◌≢◌, ℕ, suc, ◌+◌, ◌*◌, ◌<◌, ◌≤◌, ◌==◌, Bool, true, false, cond, refl, sym, ap, subst, arith, List, [], ◌∷◌, Option, Some, None}
-use Rattle.gh_base.specs.declared.operation.Op.TheVariants as op
+use Rattle.std.proofs.lemmas.Bool.Decides.{nat_tests}
+use Rattle.gh_lists.proofs.Vocabulary.{Actor, AreFew, Ask, asked_after, asked_by, asked_in, asks_collector, asks_for_one, Begins, BeginsFew, by, CoordStage, CountsWants, Entry, KeepsIt, Kind, last_at, Legal, MayAsk, Op, opened_in, other, Processor, processor_kind, ProcessorWritesItsOwn, Setup, started, total, WorkersWriteTheirOwn}
 use Rattle.gh_coord.specs.Listing as coord
-use Rattle.gh_lists.specs.declared.handshake.Actor.TheVariants as actor
-use Rattle.gh_lists.specs.Numbers.{asked_in, asks_for_one}
-use Rattle.gh_lists.specs.Processors.{asked_by, asks_collector}
-use Rattle.gh_lists.specs.Wants.{AreFew, BeginsFew, CountsWants, last_at, MayAsk, total}
-use Rattle.gh_lists.proofs.Vocabulary.{Actor, Ask, asked_after, Begins, by, CoordStage, Entry, KeepsIt, Kind, Legal, nat_tests, Op, opened_in, Processor, processor_kind, ProcessorWritesItsOwn, started, WorkersWriteTheirOwn}
-use Rattle.gh_lists.specs.Seats.{other}
 use Rattle.gh_lists.proofs.CycleNumbers.Asking.{asked_once, left, most_asks}
 use Rattle.gh_lists.specs.Sums.{total_at, total_below, total_none, total_same}
 use Rattle.gh_lists.specs.Steps as seats
-use Rattle.gh_lists.specs.Handshake.{Setup}
 
 -- how many cycles may be asked for by what has begun
 abbrev may_ask : Option Op → ℕ
@@ -48,9 +42,9 @@ module _ (setup : Setup)
   -- What may still be asked for.
 
   abbrev left_of : Actor → ℕ
-  left_of (actor.Runs m) = left m
-  left_of (actor.Marks w) = 0
-  left_of (actor.Leads c) = 0
+  left_of (Actor.Runs m) = left m
+  left_of (Actor.Marks w) = 0
+  left_of (Actor.Leads c) = 0
 
   abbrev left_at : List (Entry Op) → ℕ → ℕ
   left_at es a = left_of (at es a)
@@ -65,7 +59,7 @@ module _ (setup : Setup)
     stays : (a : ℕ) → e.actor ≢ a → left_at (e ∷ es) a ≡ left_at es a
     stays a differs = ap left_of (other setup e es a (grind (arith, nat_tests, differs)))
 
-    begun_left : (m : Processor) (o : Option Op) → at es e.actor ≡ actor.Runs m → Begins (seats.it setup) e.actor es o → left (started k o m) ≤ left m + may_ask o
+    begun_left : (m : Processor) (o : Option Op) → at es e.actor ≡ Actor.Runs m → Begins (seats.it setup) e.actor es o → left (started k o m) ≤ left m + may_ask o
     begun_left m o is b = grind arith
 
     -- no step of another asks for one
@@ -139,15 +133,15 @@ module _ (setup : Setup)
   none_of es = let same = total_same (begun_by es) (λ h. 0 + asked_by h es) setup.layout.goroutines (λ i m. omega arith) in omega (arith, same)
 
   begun_so : (e : Entry Op) (es : List (Entry Op)) (o : Option Op) → Begins (seats.it setup) e.actor es o → may_ask o + 2 * total (begun_by es) setup.layout.goroutines ≤ 2 * total (λ h. cond (asks_collector h o) 1 0 + asked_by h es) setup.layout.goroutines
-  begun_so e es (Some (op.New g d t)) b = let one = one_of es g (may_so e.actor es (Some (op.New g d t)) g b (grind (arith, nat_tests))).there in omega (arith, one)
-  begun_so e es (Some (op.Gc g)) b = let one = one_of es g (may_so e.actor es (Some (op.Gc g)) g b (grind (arith, nat_tests))).there in omega (arith, one)
+  begun_so e es (Some (Op.New g d t)) b = let one = one_of es g (may_so e.actor es (Some (Op.New g d t)) g b (grind (arith, nat_tests))).there in omega (arith, one)
+  begun_so e es (Some (Op.Gc g)) b = let one = one_of es g (may_so e.actor es (Some (Op.Gc g)) g b (grind (arith, nat_tests))).there in omega (arith, one)
   begun_so e es _ b = let none = none_of es in omega (arith, none)
 
   begun_all : (es : List (Entry Op)) → Lawful es → may_ask_in es ≤ 2 * total (begun_by es) setup.layout.goroutines
   begun_all [] legal = omega arith
   begun_all (e ∷ es) legal = let now = begun_so e es e.begun legal.1.begins in let rest = begun_all es legal.0 in omega (arith, now, rest)
 
-  pub few : (wants : (es : List (Entry Op)) (c : coord.Coordinating) → Lawful es → at es (seats.n setup) ≡ actor.Leads c → CountsWants (seats.it setup) es c) → (es : List (Entry Op)) → Lawful es → AreFew counts setup.layout es
+  pub few : (wants : (es : List (Entry Op)) (c : coord.Coordinating) → Lawful es → at es (seats.n setup) ≡ Actor.Leads c → CountsWants (seats.it setup) es c) → (es : List (Entry Op)) → Lawful es → AreFew counts setup.layout es
   few wants es legal = record { asked = asked; opened = opened; few = let most = begins.counts_fit in omega (arith, most, opened) } where
     asked : asked_in es ≤ 2 * total counts setup.layout.goroutines
     asked =

@@ -1,18 +1,14 @@
 -- The coordinator's steps: where each leads, by the parts of a cycle.
 use Rattle.std.proofs.Common.{◌≡◌, ℕ, ◌+◌, ◌^◌, ◌≤◌, true, refl, ap, Option, Some, None, arith}
-use Rattle.gh_coord.specs.declared.count.CountStage.TheVariants as count_stage
+use Rattle.gh_lists.proofs.Vocabulary.{after_check, after_close, after_count, after_open, after_tell, Ask, asks_at, At, at_stage, Begun, by_event, cell_of, Check, Checked, Close, CloseStage, Coordinating, CoordStage, Count, CycleWords, Done, effect, Ended, goes_at, is_busy, Layout, numbers_of, Open, opened_after, OpenStage, Own, own_counts, Part, part_of, Quiet, SoundAt, Tell, TellStage, to_checked, to_counted, watch_quiet, Words}
 use Rattle.gh_coord.specs.Closing as close
 use Rattle.gh_coord.specs.Counting as count
-use Rattle.gh_coord.specs.Events.{by_event}
-use Rattle.gh_coord.specs.Handshake.{SoundAt}
-use Rattle.gh_coord.specs.Listing.{is_busy}
 use Rattle.gh_coord.specs.Opening as opens_by
 use Rattle.gh_coord.specs.Telling as tell
 use Rattle.gh_coord.specs.Watching as watch
-use Rattle.gh_lists.proofs.Vocabulary.{after_check, after_close, after_count, after_open, after_tell, All, Ask, asks_at, at_stage, Begun, cell_of, Check, Checked, Close, CloseStage, Coordinating, CoordStage, Count, CountStage, Done, effect, Ended, goes_at, Layout, NotYet, Open, opened_after, OpenStage, Part, part_of, Tell, TellStage, Watched, Words}
-use Rattle.gh_lists.specs.Frames.{CycleWords, numbers_of}
-use Rattle.gh_lists.specs.Quiet.{Quiet, watch_quiet}
-use Rattle.gh_lists.specs.Parts.{At, Own, own_counts, to_checked, to_counted}
+use Rattle.gh_coord.specs.declared.watch.Watched.TheVariants.{All, NotYet}
+use Rattle.gh_coord.specs.declared.count.CountStage.{CountStage}
+use Rattle.gh_coord.specs.declared.watch.Watched.{Watched}
 
 -- what is to be told
 abbrev pub Reads : Coordinating → CoordStage → Type 0
@@ -61,9 +57,9 @@ module _ (room : ℕ) where
     -- what the sweep has counted is read, and told
     counting : (c : count.Counting) (p : CountStage) (found : ℕ) → count.is_busy p ≡ true → In Ended →
         Next (count.asks_at p) (after_count l (at_stage u (Count (count.goes_at c p found))) (count.given (count.goes_at c p found)))
-    counting c count_stage.LoadTally found b h = record { at = h; reads = tt }
-    counting c (count_stage.LoadLive t) found b h = record { at = to_counted room opened n (own_counts s) t h; reads = refl }
-    counting c (count_stage.Ended x) found b h = absurd cc
+    counting c CountStage.LoadTally found b h = record { at = h; reads = tt }
+    counting c (CountStage.LoadLive t) found b h = record { at = to_counted room opened n (own_counts s) t h; reads = refl }
+    counting c (CountStage.Ended x) found b h = absurd cc
 
     telling : (t : tell.Telling) (p : TellStage) → tell.is_busy p ≡ true → t.cycle ≡ s.begun → In (part_of (Tell (record t { stage = p }))) →
         Next (tell.asks_at t p) (after_tell (at_stage u (Tell (record t { stage = tell.behind t.is_last p }))) (tell.given_at (tell.behind t.is_last p)))

@@ -1,16 +1,11 @@
 -- The numbers of cycles after every legal list.
-use Rattle.std.proofs.Common.{◌≡◌, ℕ, ◌+◌, ◌*◌, ◌⊎◌, refl, sym, subst, ◌∙◌, arith, List, [], ◌∷◌}
+use Rattle.std.proofs.Common.{◌≡◌, ℕ, ◌+◌, ◌*◌, ◌⊎◌, refl, sym, subst, ◌∙◌, arith, List, [], ◌∷◌, ◌↔◌}
+use Rattle.gh_lists.proofs.Vocabulary.{Actor, ahead_at, Ask, CoordStage, CountsCycles, CycleWords, effect, Entry, generation_after, IsFew, KeepsIt, Kind, leaves, leaves_all, leaves_numbers, LeavesCycleWords, Legal, numbers_of, Op, opened_after, opened_in, Part, part_of, Processor, processor_kind, ProcessorWritesItsOwn, rises, Setup, Sound, started, worker_quiet, WorkersWriteTheirOwn}
 use Rattle.gh_coord.specs.Handshake as leading
 use Rattle.gh_coord.specs.Listing as coord
-use Rattle.gh_lists.specs.declared.handshake.Actor.TheVariants as actor
-use Rattle.gh_lists.specs.Handshake.{Sound, Setup}
-use Rattle.gh_lists.proofs.Vocabulary.{ahead_at, Ask, CoordStage, CountsCycles, effect, Entry, generation_after, IsBeginning, IsFew, KeepsIt, Kind, Legal, Op, opened_after, opened_in, Part, part_of, Processor, processor_kind, ProcessorWritesItsOwn, started, WorkersWriteTheirOwn, ◌↔◌}
-use Rattle.gh_lists.specs.Frames.{CycleWords, leaves, LeavesCycleWords, numbers_of}
+use Rattle.gh_lists.specs.Marking.{IsBeginning}
 use Rattle.gh_lists.proofs.CycleNumbers.Leading.{goes_so, Is}
-use Rattle.gh_lists.specs.Quiet.{leaves_all, worker_quiet}
 use Rattle.gh_lists.specs.Steps as seats
-use Rattle.gh_lists.specs.Writing.{leaves_numbers}
-use Rattle.gh_lists.specs.Counting.{rises}
 
 -- One cycle more has begun than has ended while it is marked, and where it is about to be.
 module _ (swept begun gen : ℕ) where
@@ -30,7 +25,7 @@ module _ (setup : Setup)
   k = processor_kind setup.shapes setup.layout
 
   abbrev Led : List (Entry Op) → coord.Coordinating → Type 0
-  Led es c = seats.at setup es (seats.n setup) ≡ actor.Leads c
+  Led es c = seats.at setup es (seats.n setup) ≡ Actor.Leads c
 
   abbrev told : List (Entry Op) → CycleWords
   told es = numbers_of (seats.words setup es)
@@ -72,7 +67,7 @@ module _ (setup : Setup)
         let free = subst (λ (q : Ask). LeavesCycleWords (seats.words setup es) q) (sym x.asked) (leaves_all (seats.words setup es) _ (worker_quiet (seats.words setup es) works setup.layout w x.sound_it x.busy)) in
         beside free c (before c (sym stays ∙ led))
     by_step (seats.by_lead b x) few before c led =
-        by_lead b c x (let both : actor.Leads c ≡ actor.Leads (coord.goes setup.layout b e.found) = sym led ∙ x.then in cc) (few_before few) (before b x.is)
+        by_lead b c x (let both : Actor.Leads c ≡ Actor.Leads (coord.goes setup.layout b e.found) = sym led ∙ x.then in cc) (few_before few) (before b x.is)
 
   pub holds : (es : List (Entry Op)) → Legal (seats.it setup) es → IsFew es → (c : coord.Coordinating) → Led es c → Holds es c
   holds [] legal few c led = at_first c led

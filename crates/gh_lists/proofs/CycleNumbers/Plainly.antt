@@ -1,16 +1,9 @@
 -- The numbers of cycles are how often the list stores each: with each store of one it is one cycle later.
 use Rattle.std.proofs.Common.{◌≡◌, ℕ, suc, ◌+◌, ◌*◌, ◌≤◌, Bool, true, false, refl, subst, arith, List, [], ◌∷◌}
-use Rattle.gh_base.specs.declared.cell.Ask.TheVariants.{Store}
-use Rattle.gh_base.specs.declared.cell.Cell.TheVariants as cell
-use Rattle.gh_base.specs.Cells.{put, same_cell}
+use Rattle.gh_lists.proofs.Vocabulary.{ahead_at, Ask, Cell, Change, Coordinating, CoordStage, CountsCycles, effect, Entry, IsFew, KeepsCycles, KeepsIt, Legal, Op, opened_in, opened_in_stored, Part, part_of, ProcessorWritesItsOwn, put, rises, same_cell, Setup, Store, Words, WorkersWriteTheirOwn}
 use Rattle.gh_lists.specs.Counts.{about_to_tell, CountsPlainly, stored_in, stores_cell}
-use Rattle.gh_lists.specs.Numbers.{KeepsCycles}
-use Rattle.gh_lists.proofs.Vocabulary.{ahead_at, Ask, Cell, CoordStage, Coordinating, CountsCycles, effect, Entry, IsFew, KeepsIt, Legal, Op, opened_in, Part, part_of, ProcessorWritesItsOwn, Words, WorkersWriteTheirOwn}
 use Rattle.gh_lists.proofs.Changes.{change}
-use Rattle.gh_lists.specs.Changes.{Change}
-use Rattle.gh_lists.specs.Counting.{rises, opened_in_stored}
 use Rattle.gh_lists.specs.Steps as seats
-use Rattle.gh_lists.specs.Handshake.{Setup}
 
 -- what leaves a word whatever it is does not store it
 not_stored : (ask : Ask) (c : Cell) → ((w : Words) → effect w ask c ≡ w c) → stores_cell c ask ≡ false
@@ -43,12 +36,12 @@ module _ (setup : Setup)
   told es = seats.words setup es
 
   record Stored (words : Words) (begun gen swept : ℕ) : Type 0 where
-    begun_is : words cell.Begun ≡ begun
-    gen_is : words cell.Gen ≡ 2 + 2 * gen
-    swept_is : words cell.Swept ≡ swept
+    begun_is : words Cell.Begun ≡ begun
+    gen_is : words Cell.Gen ≡ 2 + 2 * gen
+    swept_is : words Cell.Swept ≡ swept
 
   abbrev StoredIn : List (Entry Op) → Type 0
-  StoredIn es = Stored (told es) (stored_in cell.Begun es) (stored_in cell.Gen es) (stored_in cell.Swept es)
+  StoredIn es = Stored (told es) (stored_in Cell.Begun es) (stored_in Cell.Gen es) (stored_in Cell.Swept es)
 
   one_more : (e : Entry Op) (es : List (Entry Op)) → Change setup e es → StoredIn es → StoredIn (e ∷ es)
   one_more e es h h2 = grind (arith, not_stored)

@@ -1,17 +1,9 @@
 -- The requests for cycles after every legal list.
 use Rattle.std.proofs.Common.{◌≡◌, ℕ, refl, sym, subst, ◌∙◌, arith, List, [], ◌∷◌}
-use Rattle.gh_base.specs.declared.cell.Cell.TheVariants as cell
+use Rattle.gh_lists.proofs.Vocabulary.{Actor, Ask, asked_after, asked_in, Cell, CountsWants, effect, Entry, KeepsIt, Kind, leaves, leaves_all, leaves_numbers, LeavesCycleWords, Legal, Op, opened_after, opened_in, Processor, processor_kind, ProcessorWritesItsOwn, Setup, started, worker_quiet, WorkersWriteTheirOwn}
 use Rattle.gh_coord.specs.Listing as coord
-use Rattle.gh_lists.specs.declared.handshake.Actor.TheVariants as actor
-use Rattle.gh_lists.specs.Numbers.{asked_in}
-use Rattle.gh_lists.specs.Wants.{CountsWants}
-use Rattle.gh_lists.proofs.Vocabulary.{Ask, asked_after, effect, Entry, KeepsIt, Kind, Legal, Op, opened_after, opened_in, Processor, processor_kind, ProcessorWritesItsOwn, started, WorkersWriteTheirOwn}
-use Rattle.gh_lists.specs.Frames.{leaves, LeavesCycleWords}
 use Rattle.gh_lists.proofs.CycleNumbers.Wanting.{goes_so, WantsAt}
-use Rattle.gh_lists.specs.Quiet.{leaves_all, worker_quiet}
 use Rattle.gh_lists.specs.Steps as seats
-use Rattle.gh_lists.specs.Writing.{leaves_numbers}
-use Rattle.gh_lists.specs.Handshake.{Setup}
 
 module _ (setup : Setup)
     (writes : ProcessorWritesItsOwn) (works : WorkersWriteTheirOwn)
@@ -20,10 +12,10 @@ module _ (setup : Setup)
   k = processor_kind setup.shapes setup.layout
 
   abbrev Led : List (Entry Op) → coord.Coordinating → Type 0
-  Led es c = seats.at setup es (seats.n setup) ≡ actor.Leads c
+  Led es c = seats.at setup es (seats.n setup) ≡ Actor.Leads c
 
   abbrev want : List (Entry Op) → ℕ
-  want es = seats.words setup es cell.Want
+  want es = seats.words setup es Cell.Want
 
   abbrev Holds : List (Entry Op) → coord.Coordinating → Type 0
   Holds es c = WantsAt (opened_in es) (asked_in es) (want es) c.is_last c.stage
@@ -44,7 +36,7 @@ module _ (setup : Setup)
     by_lead c to x then h =
         let next = goes_so (opened_in es) (asked_in es) (seats.words setup es) setup.layout c (coord.counted c).marks c.stage e.found x.busy x.found h in
         subst (λ (y : coord.Coordinating). Holds (e ∷ es) y) (sym then)
-        (subst (λ (q : Ask). WantsAt (opened_after q (opened_in es)) (asked_after q (asked_in es)) (effect (seats.words setup es) q cell.Want) (coord.goes setup.layout c e.found).is_last (coord.goes setup.layout c e.found).stage) (sym x.asked) next)
+        (subst (λ (q : Ask). WantsAt (opened_after q (opened_in es)) (asked_after q (asked_in es)) (effect (seats.words setup es) q Cell.Want) (coord.goes setup.layout c e.found).is_last (coord.goes setup.layout c e.found).stage) (sym x.asked) next)
 
     by_step : seats.Step setup e es → ((c : coord.Coordinating) → Led es c → Holds es c) → (c : coord.Coordinating) → Led (e ∷ es) c → Holds (e ∷ es) c
     by_step (seats.by_processor m x stays) before c led =
@@ -54,7 +46,7 @@ module _ (setup : Setup)
         let free = subst (λ (q : Ask). LeavesCycleWords (seats.words setup es) q) (sym x.asked) (leaves_all (seats.words setup es) _ (worker_quiet (seats.words setup es) works setup.layout w x.sound_it x.busy)) in
         beside free c (before c (sym stays ∙ led))
     by_step (seats.by_lead b x) before c led =
-        by_lead b c x (let both : actor.Leads c ≡ actor.Leads (coord.goes setup.layout b e.found) = sym led ∙ x.then in cc) (before b x.is)
+        by_lead b c x (let both : Actor.Leads c ≡ Actor.Leads (coord.goes setup.layout b e.found) = sym led ∙ x.then in cc) (before b x.is)
 
   pub holds : (es : List (Entry Op)) → Legal (seats.it setup) es → (c : coord.Coordinating) → Led es c → Holds es c
   holds [] legal c led = at_first c led

@@ -1,18 +1,10 @@
 -- While no cycle is marked, workers are at rest.
 use Rattle.std.proofs.Common.{◌≡◌, ℕ, ◌<◌, inl, inr, sym, subst, arith, List, [], ◌∷◌}
-use Rattle.gh_base.specs.declared.machine.Entry.{Entry}
-use Rattle.gh_base.specs.declared.operation.Op.{Op}
-use Rattle.gh_base.specs.Lists.{Legal}
-use Rattle.gh_mutator_writes.specs.Writing.{ProcessorWritesItsOwn}
+use Rattle.gh_lists.proofs.Vocabulary.{Actor, CalmWorkersMarkNothing, Entry, IsCalm, KeepsIt, Legal, Op, ProcessorWritesItsOwn, Setup, Sound, WaitsWithNone, WorkersRest}
 use Rattle.gh_coord.specs.Handshake as leading
 use Rattle.gh_coord.specs.Listing as coord
 use Rattle.gh_worker.specs.Handshake as working
 use Rattle.gh_worker.specs.Listing as worker
-use Rattle.gh_worker.specs.Writing.{CalmWorkersMarkNothing, IsCalm}
-use Rattle.gh_lists.specs.declared.handshake.Actor.{Actor}
-use Rattle.gh_lists.specs.declared.handshake.Actor.TheVariants as actor
-use Rattle.gh_lists.specs.Handshake.{KeepsIt, Sound, WaitsWithNone, Setup}
-use Rattle.gh_lists.specs.Waits.{WorkersRest}
 use Rattle.gh_lists.specs.Leaving.{leaves_marking, MayLeaveMarking}
 use Rattle.gh_lists.specs.Steps as seats
 
@@ -28,7 +20,7 @@ module _ (setup : Setup)
   abbrev Rest : List (Entry Op) → Type 0
   Rest es = WorkersRest (seats.it setup) es
 
-  first_worker : (a : ℕ) (w : worker.Working) → at [] a ≡ actor.Marks w → IsCalm w
+  first_worker : (a : ℕ) (w : worker.Working) → at [] a ≡ Actor.Marks w → IsCalm w
   first_worker a w is = grind arith
 
   -- where the world is stopped it waits, with nothing held and nothing to hand over
@@ -41,7 +33,7 @@ module _ (setup : Setup)
 
     next : Rest (e ∷ es)
     next c a w led off is = by (seats.lead_was setup e es step c led) (seats.worker_was setup e es step a w is) where
-      by_lead : (b : coord.Coordinating) → seats.LeadsIt setup e es b → at es a ≡ actor.Marks w → MayLeaveMarking b.stage → IsCalm w
+      by_lead : (b : coord.Coordinating) → seats.LeadsIt setup e es b → at es a ≡ Actor.Marks w → MayLeaveMarking b.stage → IsCalm w
       by_lead b x was (inl y) = before b a w x.is y was
       by_lead b x was (inr y) =
           let lt : a < n = seats.worker_seat setup es a w was in

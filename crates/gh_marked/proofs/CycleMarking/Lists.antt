@@ -1,26 +1,18 @@
 -- What holds while a cycle is marked, after every legal list; and what holds behind the coordinator's check.
 use Rattle.std.proofs.Common.{◌≡◌, ℕ, ◌<◌, ◌≤◌, Bool, true, false, ltb, refl, sym, ap, subst, ◌∙◌, arith, inl, inr, Some, None, List, [], ◌∷◌}
-use Rattle.gh_base.specs.declared.cell.Cell.TheVariants as cell
-use Rattle.gh_marks.specs.Colours.{Black, Buffered, Colour, IsShaded, mark_of, Pending, Placing, Taken, White}
+use Rattle.std.proofs.lemmas.Bool.{ltb-false, ltb-true}
+use Rattle.gh_marked.proofs.Vocabulary.{acks_of, Actor, actors_after, Arena, Ask, begins_cycle, Black, buffer_of, Buffered, buffers_of, Cell, ChangesOneCell, checked_lasts, CheckedAt, Colour, CoordinatorGoes, CoordStage, Cycle, effect, EndsClean, Entry, Found, goes_on, goes_so, Hands, holder_in, IsChecked, IsInLimits, IsInMarking, IsLedBy, IsSeated, IsShaded, IsStartOf, KeepsIt, Layout, leaves, Legal, mark_of, mark_words, MarkingEndsClean, MarksToTheEnd, nothing, Op, Pacing, Pending, place_of, Placing, row_bit, RunPhase, seated, setting, Setup, setup_in, Shared, StepKeepsIt, Stopped, Taken, WaitsWithNone, WasMarked, WhatIsFoundIsDone, White, Words}
 use Rattle.gh_marks.specs.Ends.{IsDone, IsFoundAtTheEnd}
-use Rattle.gh_marks.specs.Laws.{MarkingEndsClean, WhatIsFoundIsDone}
-use Rattle.gh_phase.specs.declared.view.RunPhase.TheVariants as run
 use Rattle.gh_coord.specs.Handshake as leading
 use Rattle.gh_coord.specs.Listing as coord
 use Rattle.gh_worker.specs.Listing as worker
 use Rattle.gh_worker.specs.MarkFacts as marks
-use Rattle.gh_lists.specs.declared.handshake.Actor.TheVariants as actor
-use Rattle.gh_lists.specs.Handshake.{Setup}
-use Rattle.gh_lists.specs.Marking.{setup_in, IsLedBy, setting, words}
+use Rattle.gh_lists.specs.Marking.{words}
 use Rattle.gh_lists.specs.Starts.{legal_start, whole}
-use Rattle.gh_marked.proofs.Vocabulary.{acks_of, Actor, actors_after, Arena, Ask, buffer_of, buffers_of, ChangesOneCell, CoordStage, Cycle, effect, EndsClean, Entry, Hands, holder_in, IsChecked, IsInLimits, IsStartOf, KeepsIt, Layout, Legal, ltb-false, ltb-true, mark_words, Marking as Shared, nothing, Op, Pacing, place_of, row_bit, RunPhase, StepKeepsIt, Stopped, WaitsWithNone, Words}
 use Rattle.gh_marked.proofs.CycleMarking.Apart.{stays_clear}
-use Rattle.gh_marked.specs.Marked.{IsInMarking, MarksToTheEnd, WasMarked}
-use Rattle.gh_marked.specs.Checking.{begins as begins_cycle, checked_lasts, CheckedAt, CoordinatorGoes, Found, goes_on, goes_so, leaves}
 use Rattle.gh_marked.proofs.CycleMarking.Looking.{none_sweeps}
 use Rattle.gh_marked.proofs.CycleMarking.Moving as moving
 use Rattle.gh_lists.specs.Steps as seats
-use Rattle.gh_lists.specs.Seats.{IsSeated, seated}
 
 -- What is cited of steps and of lists.
 pub record Cited (arena : Arena) (pacing : Pacing) (may : ℕ → List (Entry Op) → Op → Bool) : Type 0 where
@@ -66,7 +58,7 @@ module _ (arena : Arena) (pacing : Pacing) (may : ℕ → List (Entry Op) → Op
   none_at_first c led on = grind arith
 
   -- Where the coordinator has checked it.
-  module _ (es : List (Entry Op)) (legal : Lawful es) (c : coord.Coordinating) (led : Led es c) (i : In es c) (f : Found arena.layout c.begun (told es)) (post : leading.post_at c.stage ≡ Stopped run.Mark) where
+  module _ (es : List (Entry Op)) (legal : Lawful es) (c : coord.Coordinating) (led : Led es c) (i : In es c) (f : Found arena.layout c.begun (told es)) (post : leading.post_at c.stage ≡ Stopped RunPhase.Mark) where
     abbrev z : Cycle
     z = i.cycle
 
@@ -87,26 +79,26 @@ module _ (arena : Arena) (pacing : Pacing) (may : ℕ → List (Entry Op) → Op
       worker_has w waits facts = (subst (marks.StageFacts z a s w.held) waits.is_at facts.stage_is).0
 
       go : (m : Actor) → at es a ≡ m → Hands a s nothing
-      go (actor.Runs m) is =
-          let lt : a < arena.layout.procs = seat_of es a (actor.Runs m) is in
-          (cited.moves.known.processors.waits z a s m (leading.lead_of c).stops (kept.processors_wait c run.Mark a m led post (omega (arith, lt)) is) (i.processors a m lt is)).nothing_in_hand
-      go (actor.Marks w) is =
-          let lt : a < n = (seat_of es a (actor.Marks w) is).1 in
-          worker_has w (kept.workers_wait c run.Mark a w led post lt is) (i.workers a w lt is)
-      go (actor.Leads x) is = i.coordinator a (seat_of es a (actor.Leads x) is)
+      go (Actor.Runs m) is =
+          let lt : a < arena.layout.procs = seat_of es a (Actor.Runs m) is in
+          (cited.moves.known.processors.waits z a s m (leading.lead_of c).stops (kept.processors_wait c RunPhase.Mark a m led post (omega (arith, lt)) is) (i.processors a m lt is)).nothing_in_hand
+      go (Actor.Marks w) is =
+          let lt : a < n = (seat_of es a (Actor.Marks w) is).1 in
+          worker_has w (kept.workers_wait c RunPhase.Mark a w led post lt is) (i.workers a w lt is)
+      go (Actor.Leads x) is = i.coordinator a (seat_of es a (Actor.Leads x) is)
 
-    empty : (b : ℕ) → holder_in (told es (cell.Buffer b)) ≡ 0 → (buffer_of (told es (cell.Buffer b))).count ≡ 0
+    empty : (b : ℕ) → holder_in (told es (Cell.Buffer b)) ≡ 0 → (buffer_of (told es (Cell.Buffer b))).count ≡ 0
     empty b free = go (ltb b (buffers_of arena.layout)) refl where
-      go : (x : Bool) → ltb b (buffers_of arena.layout) ≡ x → (buffer_of (told es (cell.Buffer b))).count ≡ 0
+      go : (x : Bool) → ltb b (buffers_of arena.layout) ≡ x → (buffer_of (told es (Cell.Buffer b))).count ≡ 0
       go true x = f.empty b (ltb-true _ _ x) free
       go false x = ap (λ (v : ℕ). (buffer_of v).count) (stays_clear (setting arena pacing may) cited.one b (ltb-false _ _ x) refl es legal)
 
     is_found : IsFoundAtTheEnd z s
     is_found = record {
       seats = empty_handed;
-      empty = λ b. subst (λ (w : Words). holder_in (w (cell.Buffer b)) ≡ 0 → (buffer_of (w (cell.Buffer b))).count ≡ 0) (sym i.is.words_are) (empty b);
-      cursor = subst (λ (x : Arena). x.layout.globals ≤ s.words cell.Gcur) (sym i.is.arena_is) (subst (λ (w : Words). arena.layout.globals ≤ w cell.Gcur) (sym i.is.words_are) f.cursor);
-      stacks = λ g m. subst (λ (w : Words). z.number ≤ w (cell.Scanned g)) (sym i.is.words_are) (subst (λ (x : ℕ). x ≤ told es (cell.Scanned g)) (sym i.is.number_is) (f.stacks g (subst (λ (x : Arena). g < x.layout.goroutines) i.is.arena_is m)));
+      empty = λ b. subst (λ (w : Words). holder_in (w (Cell.Buffer b)) ≡ 0 → (buffer_of (w (Cell.Buffer b))).count ≡ 0) (sym i.is.words_are) (empty b);
+      cursor = subst (λ (x : Arena). x.layout.globals ≤ s.words Cell.Gcur) (sym i.is.arena_is) (subst (λ (w : Words). arena.layout.globals ≤ w Cell.Gcur) (sym i.is.words_are) f.cursor);
+      stacks = λ g m. subst (λ (w : Words). z.number ≤ w (Cell.Scanned g)) (sym i.is.words_are) (subst (λ (x : ℕ). x ≤ told es (Cell.Scanned g)) (sym i.is.number_is) (f.stacks g (subst (λ (x : Arena). g < x.layout.goroutines) i.is.arena_is m)));
     }
 
     is_done : IsDone z s
@@ -130,7 +122,7 @@ module _ (arena : Arena) (pacing : Pacing) (may : ℕ → List (Entry Op) → Op
     ends = record { done = is_done; reached = cited.clean z s i.good is_done; dead = dead }
 
   -- behind the check all is found, in a stopped world
-  behind : (l : Layout) (number : ℕ) (w : Words) (p : CoordStage) → leading.Marks p → IsChecked p → CheckedAt l number w p → Found l number w × (leading.post_at p ≡ Stopped run.Mark)
+  behind : (l : Layout) (number : ℕ) (w : Words) (p : CoordStage) → leading.Marks p → IsChecked p → CheckedAt l number w p → Found l number w × (leading.post_at p ≡ Stopped RunPhase.Mark)
   behind l number w p on y h = grind arith
 
   to_the_end : (es : List (Entry Op)) (c : coord.Coordinating) → Lawful es → Led es c → leading.Marks c.stage → Holds es c → MarksToTheEnd arena pacing may es c
@@ -192,7 +184,7 @@ module _ (arena : Arena) (pacing : Pacing) (may : ℕ → List (Entry Op) → Op
         let none = none_sweeps it cited.moves.known.read cited.moves.known.writes cited.moves.known.places cited.keeps es c legal.0 (was stays x.seat) on e.actor w x.seat x.is in
         by_others stays x.seat (moving.by_worker arena pacing may cited.moves e es c c (marks_on stays x.seat) w none x)
     by_step (seats.by_lead b x) =
-        let then : c ≡ coord.goes arena.layout b e.found = let both : actor.Leads c ≡ actor.Leads (coord.goes arena.layout b e.found) = sym led ∙ x.then in cc in
+        let then : c ≡ coord.goes arena.layout b e.found = let both : Actor.Leads c ≡ Actor.Leads (coord.goes arena.layout b e.found) = sym led ∙ x.then in cc in
         by_lead b x then (goes_by b x then)
 
     follows : Holds (e ∷ es) c

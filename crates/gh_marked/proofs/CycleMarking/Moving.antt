@@ -1,35 +1,21 @@
 -- One entry more while a cycle is marked, by the actor that makes it: its step is made of moves of marking, and what is known of all others lasts. And the begin of a cycle.
 use Rattle.std.proofs.Common.{◌≡◌, ◌≢◌, ℕ, suc, ◌+◌, ◌/◌, ◌%◌, ◌<◌, ◌≤◌, ◌==◌, Bool, true, false, refl, sym, ap, subst, ◌∙◌, arith, List, ◌∷◌, Some, None}
-use Rattle.std.proofs.Math.Nat.{mul-le-mul_right}
-use Rattle.gh_base.specs.declared.cell.Cell.TheVariants as cell
-use Rattle.gh_marks.specs.Laws.{Begins, EachHandFollows, EachHandLasts, EachStepGoesByMoves, StepsGoByMoves}
-use Rattle.gh_marks.specs.Moves.{goes, moved, Others, Quiet, SameExtent, stays, Steps}
-use Rattle.gh_phase.specs.declared.view.RunPhase.TheVariants as run
+use Rattle.gh_marked.proofs.Vocabulary.{acks_of, Actor, actors_after, Acts, alloc_words, Arena, Ask, begin_post, beyond_goes, bit_at, Cell, cell_of, counted, Cycle, done_by, EachHandFollows, EachHandLasts, EachStepGoesByMoves, effect, Entry, goes, Hands, IsBeginning, IsInMarking, IsLedBy, IsLight, IsSeated, KeepsIt, Kind, Knows, KnowsHeap, LeavesObjects, Legal, MarkFacts, MarkingBegins, MarksByMoves, MayBegin, most_scanned, mul-le-mul_right, nat_tests, nothing, Op, other, Pacing, PackedWordsAreReadBack, Party, place_of, Processor, processor_kind, ProcessorWritesItsOwn, Quiet, RestsAtStop, Row, row_bit, RunPhase, SameExtent, scanned_by, seated, seats_of, setting, Setup, setup_in, Shared, Sound, started, stays, StepsByMoves, StepsGoByMoves, stored_in, stored_rises, WaitsWithNone, WasMarked, Went, Words, WorkersAreRoutines, WorkersKeepPlaces, works}
+use Rattle.gh_marks.specs.Laws.{Begins}
+use Rattle.gh_marks.specs.Moves.{moved, Others, Steps}
 use Rattle.gh_phase.specs.declared.resume.ResumeStage.TheVariants.{LoadPhase}
 use Rattle.gh_phase.specs.ResumePlaces as resumes
 use Rattle.gh_coord.specs.Handshake as leading
 use Rattle.gh_coord.specs.Listing as coord
-use Rattle.gh_mutator.specs.ProcessorMarks.{MarksByMoves}
 use Rattle.gh_worker.specs.Handshake as working
 use Rattle.gh_worker.specs.Listing as worker
 use Rattle.gh_worker.specs.MarkFacts as marks
-use Rattle.gh_worker.specs.Places.{RestsAtStop, WorkersKeepPlaces}
-use Rattle.gh_worker.specs.Routine.{WorkersAreRoutines}
-use Rattle.gh_lists.specs.declared.handshake.Actor.TheVariants as actor
-use Rattle.gh_lists.specs.Handshake.{Setup, Sound}
-use Rattle.gh_lists.specs.Counts.{stored_in}
-use Rattle.gh_lists.specs.Marking.{setup_in, IsLedBy, setting, words}
-use Rattle.gh_marked.specs.Scanned.{done_by, most_scanned, scanned_by}
-use Rattle.gh_marked.proofs.Vocabulary.{acks_of, Actor, actors_after, Acts, alloc_words, Arena, Ask, bit_at, cell_of, Cycle, effect, Entry, Hands, IsBeginning, KeepsIt, Kind, Legal, MarkFacts, Marking as Shared, MarkingBegins, MarkingGood as Good, nat_tests, nothing, Op, PackedWordsAreReadBack, Pacing, Party, place_of, Processor, processor_kind, ProcessorWritesItsOwn, Row, row_bit, seats_of, started, WaitsWithNone, Went, Words}
-use Rattle.gh_marked.specs.Marked.{IsInMarking, Knows, KnowsHeap, LeavesObjects, MayBegin, StepsByMoves, WasMarked}
+use Rattle.gh_lists.specs.Marking.{words}
+use Rattle.gh_marks.specs.Good.{Good}
 use Rattle.gh_marked.specs.Beside.{LeavesHeap, works_so}
-use Rattle.gh_marked.specs.Checking.{IsLight, begin_post}
 use Rattle.gh_marked.proofs.CycleMarking.Placing.{places_none}
-use Rattle.gh_lists.specs.Seats.{IsSeated, other, seated, works}
 use Rattle.gh_lists.specs.Steps as seats
-use Rattle.gh_marked.specs.Levels.{beyond_goes}
 use Rattle.gh_marked.proofs.Scanned.Routines.{has_step}
-use Rattle.gh_marked.specs.Weights.{counted, stored_rises}
 use Rattle.gh_marked.proofs.Scanned.Works as scanned
 
 -- a bit is that of its word
@@ -42,7 +28,7 @@ pub record SameObjects (s t : Shared) : Type 0 where
   pub since : (o : ℕ) → t.since o ≡ s.since o
   pub extents : (o : ℕ) → s.since o ≡ true → SameExtent s.extents t.extents o
 
-pub objects_stay : EachStepGoesByMoves → (z : Cycle) (a : ℕ) (s t : Shared) → Good z s → Went z a s t → ((x : ℕ) → t.words (cell.Alloc x) ≡ s.words (cell.Alloc x)) → SameObjects s t
+pub objects_stay : EachStepGoesByMoves → (z : Cycle) (a : ℕ) (s t : Shared) → Good z s → Went z a s t → ((x : ℕ) → t.words (Cell.Alloc x) ≡ s.words (Cell.Alloc x)) → SameObjects s t
 objects_stay steps z a s t good went slots = record { since = λ o. by o (t.since o) (s.since o) refl refl; extents = others.keeps.extents } where
   step : StepsGoByMoves z a s t
   step = steps z a s t good went
@@ -125,8 +111,8 @@ module _ (arena : Arena) (pacing : Pacing) (may : ℕ → List (Entry Op) → Op
       went : Went z a s shared
       words_are : shared.words ≡ words arena pacing may (e ∷ es)
       heap_is : Knows arena pacing may z shared (e ∷ es)
-      own_processor : (m : Processor) → at (e ∷ es) a ≡ actor.Runs m → MarkFacts z a shared m
-      own_worker : (w : worker.Working) → at (e ∷ es) a ≡ actor.Marks w → marks.Facts z a shared w
+      own_processor : (m : Processor) → at (e ∷ es) a ≡ Actor.Runs m → MarkFacts z a shared m
+      own_worker : (w : worker.Working) → at (e ∷ es) a ≡ Actor.Marks w → marks.Facts z a shared w
       own_hand : n ≤ a → Hands a shared nothing
 
     module _ (landed : Landed) where
@@ -136,13 +122,13 @@ module _ (arena : Arena) (pacing : Pacing) (may : ℕ → List (Entry Op) → Op
       step : StepsGoByMoves z a s t
       step = moves.known.steps z a s t marking_on.i.good landed.went
 
-      processors : (b : ℕ) (m : Processor) → b < arena.layout.procs → at (e ∷ es) b ≡ actor.Runs m → MarkFacts z b t m
+      processors : (b : ℕ) (m : Processor) → b < arena.layout.procs → at (e ∷ es) b ≡ Actor.Runs m → MarkFacts z b t m
       processors b m lt is = go (a == b) refl where
         go : (x : Bool) → (a == b) ≡ x → MarkFacts z b t m
         go true x = subst (λ (y : ℕ). MarkFacts z y t m) (is_one a b x) (landed.own_processor m (ap (at (e ∷ es)) (is_one a b x) ∙ is))
         go false x = moves.known.processors.lasts z b s t m (step.others b (is_other a b x)) (marking_on.i.processors b m lt (sym (other it e es b x) ∙ is))
 
-      workers : (b : ℕ) (w : worker.Working) → b < n → at (e ∷ es) b ≡ actor.Marks w → marks.Facts z b t w
+      workers : (b : ℕ) (w : worker.Working) → b < n → at (e ∷ es) b ≡ Actor.Marks w → marks.Facts z b t w
       workers b w lt is = go (a == b) refl where
         go : (x : Bool) → (a == b) ≡ x → marks.Facts z b t w
         go true x = subst (λ (y : ℕ). marks.Facts z y t w) (is_one a b x) (landed.own_worker w (ap (at (e ∷ es)) (is_one a b x) ∙ is))
@@ -158,10 +144,10 @@ module _ (arena : Arena) (pacing : Pacing) (may : ℕ → List (Entry Op) → Op
       scans : (m : Actor) → at es a ≡ m → scanned_by it e es + counted arena.layout s ≤ counted arena.layout t
       scans m is = subst (λ (x : Actor). done_by arena.layout x e.found + counted arena.layout s ≤ counted arena.layout t) (sym is) (subst (λ (r : Arena). done_by r.layout m e.found + counted r.layout s ≤ counted r.layout t) marking_on.i.is.arena_is (go m is)) where
         go : (m : Actor) → at es a ≡ m → done_by z.arena.layout m e.found + counted z.arena.layout s ≤ counted z.arena.layout t
-        go (actor.Runs m) is = scanned.none_done moves.known.steps z a s t marking_on.i.good (moves.heap.objects z s es marking_on.i.good marking_on.i.known) marking_on.i.none_beyond landed.went
-        go (actor.Marks w) is = scanned.works moves.known.steps z a s t marking_on.i.good (moves.heap.objects z s es marking_on.i.good marking_on.i.known) marking_on.i.none_beyond landed.went w e.found (has_step it es a w is)
-            (marking_on.i.workers a w (subst (IsSeated arena.layout a) is (seated it es a)).1 is) (landed.own_worker (worker.goes z.arena.layout w e.found) (works it e es w is ∙ ap (λ (r : Arena). actor.Marks (worker.goes r.layout w e.found)) (sym marking_on.i.is.arena_is)))
-        go (actor.Leads x) is = scanned.none_done moves.known.steps z a s t marking_on.i.good (moves.heap.objects z s es marking_on.i.good marking_on.i.known) marking_on.i.none_beyond landed.went
+        go (Actor.Runs m) is = scanned.none_done moves.known.steps z a s t marking_on.i.good (moves.heap.objects z s es marking_on.i.good marking_on.i.known) marking_on.i.none_beyond landed.went
+        go (Actor.Marks w) is = scanned.works moves.known.steps z a s t marking_on.i.good (moves.heap.objects z s es marking_on.i.good marking_on.i.known) marking_on.i.none_beyond landed.went w e.found (has_step it es a w is)
+            (marking_on.i.workers a w (subst (IsSeated arena.layout a) is (seated it es a)).1 is) (landed.own_worker (worker.goes z.arena.layout w e.found) (works it e es w is ∙ ap (λ (r : Arena). Actor.Marks (worker.goes r.layout w e.found)) (sym marking_on.i.is.arena_is)))
+        go (Actor.Leads x) is = scanned.none_done moves.known.steps z a s t marking_on.i.good (moves.heap.objects z s es marking_on.i.good marking_on.i.known) marking_on.i.none_beyond landed.went
 
       next : In (e ∷ es) to
       next = record {
@@ -173,7 +159,7 @@ module _ (arena : Arena) (pacing : Pacing) (may : ℕ → List (Entry Op) → Op
         processors = processors;
         workers = workers;
         coordinator = coordinator;
-        scanned = let before = marking_on.i.scanned in let more = scans (at es a) refl in let ended = mul-le-mul_right (most_scanned arena.layout) (stored_rises cell.Gen e.ask (stored_in cell.Gen es)) in omega (arith, before, more, ended);
+        scanned = let before = marking_on.i.scanned in let more = scans (at es a) refl in let ended = mul-le-mul_right (most_scanned arena.layout) (stored_rises Cell.Gen e.ask (stored_in Cell.Gen es)) in omega (arith, before, more, ended);
         none_beyond = beyond_goes z a s t landed.went marking_on.i.none_beyond;
       }
 
@@ -186,12 +172,12 @@ module _ (arena : Arena) (pacing : Pacing) (may : ℕ → List (Entry Op) → Op
     leaves_objects t ask went is h = record {
       since = objects.since;
       extents = objects.extents;
-      page = λ x. ap (λ (w : Words). w (cell.Page x)) is ∙ h.page s.words x;
+      page = λ x. ap (λ (w : Words). w (Cell.Page x)) is ∙ h.page s.words x;
       alloc = slots;
-      bitmap = λ x. ap (λ (w : Words). w (cell.Bitmap x)) is ∙ h.bitmap s.words x;
+      bitmap = λ x. ap (λ (w : Words). w (Cell.Bitmap x)) is ∙ h.bitmap s.words x;
     } where
-      slots : (x : ℕ) → t.words (cell.Alloc x) ≡ s.words (cell.Alloc x)
-      slots x = ap (λ (w : Words). w (cell.Alloc x)) is ∙ h.alloc s.words x
+      slots : (x : ℕ) → t.words (Cell.Alloc x) ≡ s.words (Cell.Alloc x)
+      slots x = ap (λ (w : Words). w (Cell.Alloc x)) is ∙ h.alloc s.words x
 
       objects : SameObjects s t
       objects = objects_stay moves.known.steps z a s t marking_on.i.good went slots
@@ -203,8 +189,8 @@ module _ (arena : Arena) (pacing : Pacing) (may : ℕ → List (Entry Op) → Op
       went = land.went;
       words_are = words_then land.then e.ask land.words_are refl;
       heap_is = land.after.1;
-      own_processor = λ p now. subst (MarkFacts z a land.then) (let both : actor.Runs (k.takes (started k e.begun m) e.found) ≡ actor.Runs p = sym x.then ∙ now in cc) land.after.0;
-      own_worker = λ w now. absurd (let both : actor.Runs (k.takes (started k e.begun m) e.found) ≡ actor.Marks w = sym x.then ∙ now in cc);
+      own_processor = λ p now. subst (MarkFacts z a land.then) (let both : Actor.Runs (k.takes (started k e.begun m) e.found) ≡ Actor.Runs p = sym x.then ∙ now in cc) land.after.0;
+      own_worker = λ w now. absurd (let both : Actor.Runs (k.takes (started k e.begun m) e.found) ≡ Actor.Marks w = sym x.then ∙ now in cc);
       own_hand = λ le. absurd (let lt = x.seat in omega (arith, lt, le));
     }) where
       land : Steps z a s e.ask (λ t. MarkFacts z a t (k.takes (started k e.begun m) e.found) × Knows arena pacing may z t (e ∷ es))
@@ -217,8 +203,8 @@ module _ (arena : Arena) (pacing : Pacing) (may : ℕ → List (Entry Op) → Op
       went = land.went;
       words_are = then_words;
       heap_is = moves.heap.lasts e es c to marking_on.legal marking_on.led marking_on.led_then marking_on.on_then z s land.then marking_on.i.is marking_on.i.good (moves.known.steps z a s land.then marking_on.i.good land.went).good marking_on.i.known x.from land.went (leaves_objects land.then (worker.asks arena.layout w) land.went land.words_are (works_so moves.known.routines arena.layout w none)) (places_none z a land.then (worker.goes arena.layout w (s.words (cell_of (worker.asks arena.layout w)))) land.after) then_words;
-      own_processor = λ p now. absurd (let both : actor.Marks (worker.goes arena.layout w e.found) ≡ actor.Runs p = sym x.then ∙ now in cc);
-      own_worker = λ v now. subst (marks.Facts z a land.then) (let both : actor.Marks (worker.goes arena.layout w e.found) ≡ actor.Marks v = sym x.then ∙ now in cc) (subst (λ (y : ℕ). marks.Facts z a land.then (worker.goes arena.layout w y)) (sym found) land.after);
+      own_processor = λ p now. absurd (let both : Actor.Marks (worker.goes arena.layout w e.found) ≡ Actor.Runs p = sym x.then ∙ now in cc);
+      own_worker = λ v now. subst (marks.Facts z a land.then) (let both : Actor.Marks (worker.goes arena.layout w e.found) ≡ Actor.Marks v = sym x.then ∙ now in cc) (subst (λ (y : ℕ). marks.Facts z a land.then (worker.goes arena.layout w y)) (sym found) land.after);
       own_hand = λ le. absurd (let lt = x.seat in omega (arith, lt, le));
     }) where
       land : Steps z a s (worker.asks arena.layout w) (λ t. marks.Facts z a t (worker.goes arena.layout w (s.words (cell_of (worker.asks arena.layout w)))))
@@ -238,8 +224,8 @@ module _ (arena : Arena) (pacing : Pacing) (may : ℕ → List (Entry Op) → Op
       went = went;
       words_are = then_words;
       heap_is = moves.heap.lasts e es c to marking_on.legal marking_on.led marking_on.led_then marking_on.on_then z s t marking_on.i.is marking_on.i.good (moves.known.steps z a s t marking_on.i.good went).good marking_on.i.known behind_processors went (leaves_objects t (coord.asks arena.layout c) went refl light.aside) (λ o is. absurd (let none : None ≡ Some o = ((marking_on.i.coordinator a (subst (λ (y : ℕ). n ≤ y) (sym x.seat) (omega arith))).has.is_reserved o).1 is in cc)) then_words;
-      own_processor = λ p now. absurd (let both : actor.Leads (coord.goes arena.layout c e.found) ≡ actor.Runs p = sym then ∙ now in cc);
-      own_worker = λ v now. absurd (let both : actor.Leads (coord.goes arena.layout c e.found) ≡ actor.Marks v = sym then ∙ now in cc);
+      own_processor = λ p now. absurd (let both : Actor.Leads (coord.goes arena.layout c e.found) ≡ Actor.Runs p = sym then ∙ now in cc);
+      own_worker = λ v now. absurd (let both : Actor.Leads (coord.goes arena.layout c e.found) ≡ Actor.Marks v = sym then ∙ now in cc);
       own_hand = λ le. (moves.known.follow z a s nothing marking_on.i.good (marking_on.i.coordinator a le)).quiet (coord.asks arena.layout c) (light.quiet s);
     }) where
       t : Shared
@@ -251,7 +237,7 @@ module _ (arena : Arena) (pacing : Pacing) (may : ℕ → List (Entry Op) → Op
       behind_processors : arena.layout.procs ≤ a
       behind_processors = let end = x.seat in omega (arith, end)
 
-      then : at (e ∷ es) a ≡ actor.Leads (coord.goes arena.layout c e.found)
+      then : at (e ∷ es) a ≡ Actor.Leads (coord.goes arena.layout c e.found)
       then = ap (at (e ∷ es)) x.seat ∙ x.then
 
       then_words : t.words ≡ words arena pacing may (e ∷ es)
@@ -266,14 +252,14 @@ module _ (arena : Arena) (pacing : Pacing) (may : ℕ → List (Entry Op) → Op
     begun : Begins opened.cycle opened.shared
     begun = moves.known.begin opened.cycle opened.shared opened.opens
 
-    worker_knows : (a : ℕ) (w : worker.Working) → a < n → at es a ≡ actor.Marks w → marks.Facts opened.cycle a opened.shared w
+    worker_knows : (a : ℕ) (w : worker.Working) → a < n → at es a ≡ Actor.Marks w → marks.Facts opened.cycle a opened.shared w
     worker_knows a w lt is = record {
       seat_in = subst (λ (x : Arena). a < seats_of x.layout) (sym opened.is.arena_is) (omega (arith, lt));
       seat_is = sym rests.seat_is ∙ seat;
       stage_is = rests.hands opened.cycle a opened.shared (begun.seats a);
     } where
       waits : WaitsWithNone (leading.lead_of c).stops w
-      waits = keeps.workers_wait c run.Off a w led (begin_post c.stage b) lt is
+      waits = keeps.workers_wait c RunPhase.Off a w led (begin_post c.stage b) lt is
 
       rests : RestsAtStop w
       rests = moves.known.places.rests w waits.routine.stops LoadPhase (subst (Sound arena.layout) is (keeps.shakes.all_sound a (omega arith))) (ap working.stands_at waits.is_at ∙ ap (resumes.stands_at waits.routine.stops) waits.loads)

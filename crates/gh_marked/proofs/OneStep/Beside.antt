@@ -1,32 +1,23 @@
 -- A step of a processor while a cycle is marked, its operation begun: it is a move over the heap and made of moves of marking at once, whatever the processor runs; and where it writes the word of a stack it tells that the stack is scanned, of a goroutine that goes on.
 use Rattle.std.proofs.Common.{◌≡◌, ◌≢◌, ◌⊎◌, inl, inr, ℕ, ◌^◌, ◌<◌, Bool, true, false, cond, refl, sym, ap, subst, ◌∙◌, arith, List, ◌∷◌, Option, Some, None, eq-eqb}
-use Rattle.gh_base.specs.declared.cell.Cell.TheVariants as cell
+use Rattle.gh_marked.proofs.Vocabulary.{Answer, Arena, arena, Ask, asks, awake_at, begins, by, Cell, cell_of, Coordinating, CoordStage, Cycle, DoesPoints, effect, END, Entry, Given, has_left_at, Heap, HeapSteps, idle_sweeps_none, is_busy_at, IsAwake, IsBeginning, IsKnown, IsLed, IsSound, IsWritten, Kind, knows_at, LeavesStack, left, Legal, ListsKnown, Load, MarkFacts, Marking, MarkingGood, may_parts, moved, only_polls, Op, party_of, Polling, Processor, processor_at, processor_kind, ProcessorFacts, runs_are, same_cell, ScansStack, setup_for, Shape, stage_at, stage_of, started, state_by, state_of, Store, sweep_in, takes, Task, TellsScan, TellsStacks, those, view, Words, words, WritesOf}
 use Rattle.gh_coord.specs.Handshake as leading
-use Rattle.gh_mutator.specs.declared.task.Task.TheVariants as task
 use Rattle.gh_mutator_heap.specs.Beside.{KnowsMarking, StepsOn, Together}
 use Rattle.gh_mutator.specs.Sound.{has_room}
 use Rattle.gh_phase.specs.declared.view.RunPhase.TheVariants.{Mark}
-use Rattle.gh_mutator.specs.Sweeping.{sweep_in}
-use Rattle.gh_marked.proofs.Vocabulary.{Answer, Arena, arena, Ask, asks, begins, by, Cell, cell_of, Coordinating, CoordStage, Cycle, DoesPoints, effect, END, Entry, ProcessorFacts, has_left_at, Heap, is_busy_at, IsAwake, IsBeginning, IsKnown, IsLed, IsSound, IsWritten, Kind, left, Legal, Load, MarkFacts, Marking, MarkingGood, moved, only_polls, Op, party_at, party_of, Polling, Processor, processor_at, processor_kind, same_cell, Shape, stage_at, stage_of, started, state_of, Steps as HeapSteps, Store, takes, Task, TellsScan, those, view, View, Words, words, WritesOf}
+use Rattle.gh_mutator.specs.ProcessorPlaces.{party_at}
+use Rattle.gh_phase.specs.declared.view.View.{View}
 use Rattle.gh_marked.proofs.OneStep.EndedStays.{ended_stays}
-use Rattle.gh_marked.specs.Known.{ListsKnown}
 use Rattle.gh_marked.proofs.OneStep.Landing as landing
-use Rattle.gh_marked.specs.OwnEntries.{state_by}
 use Rattle.gh_marked.proofs.OneStep.OwnStep as step
-use Rattle.gh_lists.specs.Writing.{awake_at, knows_at}
-use Rattle.gh_lists.specs.Sweeping.{idle_sweeps_none}
-use Rattle.gh_lists.specs.Beginning.{may_parts}
-use Rattle.gh_lists.specs.Resting.{runs_are}
-use Rattle.gh_marked.specs.StackWords.{LeavesStack, ScansStack, TellsStacks}
 use Rattle.gh_marked.proofs.OneStep.Wanted.{Wanted as Laws}
-use Rattle.gh_lists.specs.Lists.{Given, setup_for}
 
 -- the cell of a stack
-is_stack : (c : Cell) (g : ℕ) → same_cell c (cell.Scanned g) ≡ true → c ≡ cell.Scanned g
+is_stack : (c : Cell) (g : ℕ) → same_cell c (Cell.Scanned g) ≡ true → c ≡ Cell.Scanned g
 is_stack c g is = grind arith
 
 -- it rests, and has not left
-idle_is : (t : Task) → is_busy_at t ≡ false → has_left_at t ≡ false → t ≡ task.Idle
+idle_is : (t : Task) → is_busy_at t ≡ false → has_left_at t ≡ false → t ≡ Task.Idle
 idle_is t idle going = grind arith
 
 -- it begins none while it marks one
@@ -118,7 +109,7 @@ module _ (given : Given) (wanted : Laws) (lists : ListsKnown (setup_for given)) 
     begins_is : (o : Op) → e.begun ≡ Some o → now ≡ begins given.shapes m o
     begins_is o is = grind (arith, begun_is, going)
 
-    rests : (o : Op) → e.begun ≡ Some o → m.task ≡ task.Idle
+    rests : (o : Op) → e.begun ≡ Some o → m.task ≡ Task.Idle
     rests o is = grind (arith, going, idle, idle_is)
 
     has_room_now : (o : Op) → e.begun ≡ Some o → has_room m o ≡ true
@@ -126,7 +117,7 @@ module _ (given : Given) (wanted : Laws) (lists : ListsKnown (setup_for given)) 
 
     -- What is known where it steps.
 
-    last_begun : told es cell.Begun ≡ number
+    last_begun : told es Cell.Begun ≡ number
     last_begun = grind arith
 
     words_are : s.words ≡ told es
@@ -140,7 +131,7 @@ module _ (given : Given) (wanted : Laws) (lists : ListsKnown (setup_for given)) 
       bounded = marked.kn.has.of_list.bounded;
       beside = marked.kn.beside;
       ends = λ g ended. (marked.kn.has.of_list.stacks g).1 ended;
-      cycle = ap (λ (w : Words). w cell.Begun) words_are ∙ last_begun;
+      cycle = ap (λ (w : Words). w Cell.Begun) words_are ∙ last_begun;
       sound = sound;
       fine = fine_p;
       facts = f;
@@ -182,12 +173,12 @@ module _ (given : Given) (wanted : Laws) (lists : ListsKnown (setup_for given)) 
 
     -- What it tells of stacks.
 
-    view_begun : (g : ℕ) → TellsScan given.layout now g → now.poll.local.view.begun ≡ told es cell.Begun
+    view_begun : (g : ℕ) → TellsScan given.layout now g → now.poll.local.view.begun ≡ told es Cell.Begun
     view_begun g tells = go e.begun refl where
-      known_by : (p : Processor) → IsAwake (stage_of p) → m ≡ p → (party_of p).view.begun ≡ told es cell.Begun
-      known_by p awake same = subst (λ (y : Processor). (party_of y).view.begun ≡ told es cell.Begun) same ((lists.keeps es marked.legal.0).processors_know a m (omega (arith, marked.lt)) (runs_are (setup_for given) es a marked.lt) (subst (λ (y : Processor). IsAwake (stage_of y)) (sym same) awake)).begun_is
+      known_by : (p : Processor) → IsAwake (stage_of p) → m ≡ p → (party_of p).view.begun ≡ told es Cell.Begun
+      known_by p awake same = subst (λ (y : Processor). (party_of y).view.begun ≡ told es Cell.Begun) same ((lists.keeps es marked.legal.0).processors_know a m (omega (arith, marked.lt)) (runs_are (setup_for given) es a marked.lt) (subst (λ (y : Processor). IsAwake (stage_of y)) (sym same) awake)).begun_is
 
-      go : (o : Option Op) → e.begun ≡ o → now.poll.local.view.begun ≡ told es cell.Begun
+      go : (o : Option Op) → e.begun ≡ o → now.poll.local.view.begun ≡ told es Cell.Begun
       go None is =
           let same : m ≡ now = sym (ap (λ (y : Option Op). started k y m) is) in
           let awake = awake_at 0 (party_of now) (stage_of now) (asks given.layout now) (party_of (takes given.layout given.shapes now 0)) (stage_of (takes given.layout given.shapes now 0)) g now.poll.local.view.begun tells.tells (lists.known.places.takes_so given.layout given.shapes now 0 sound_now.place busy) in
@@ -203,26 +194,26 @@ module _ (given : Given) (wanted : Laws) (lists : ListsKnown (setup_for given)) 
         let same : number ≡ END = sym last_begun ∙ (sym (view_begun g tells) ∙ is) in
         absurd (omega (arith, few, same))
 
-    goes_on : (g : ℕ) → TellsScan given.layout now g → h.words (cell.Scanned g) ≢ END
+    goes_on : (g : ℕ) → TellsScan given.layout now g → h.words (Cell.Scanned g) ≢ END
     goes_on g tells is =
-        let ended : goes.then.words (cell.Scanned g) ≡ END = ended_stays lists.known.one (cycle number few) a g s goes.then goes.went (ap (λ (w : Words). w (cell.Scanned g)) marked.kn.beside.words ∙ is) in
-        let told_is : goes.then.words (cell.Scanned g) ≡ now.poll.local.view.begun =
-        ap (λ (w : Words). w (cell.Scanned g)) (goes.beside.words ∙ land.words_are) ∙ (ap (λ (q : Ask). effect h.words q (cell.Scanned g)) tells.tells ∙ ap (λ (b : Bool). cond b now.poll.local.view.begun (h.words (cell.Scanned g))) (eq-eqb g g refl)) in
+        let ended : goes.then.words (Cell.Scanned g) ≡ END = ended_stays lists.known.one (cycle number few) a g s goes.then goes.went (ap (λ (w : Words). w (Cell.Scanned g)) marked.kn.beside.words ∙ is) in
+        let told_is : goes.then.words (Cell.Scanned g) ≡ now.poll.local.view.begun =
+        ap (λ (w : Words). w (Cell.Scanned g)) (goes.beside.words ∙ land.words_are) ∙ (ap (λ (q : Ask). effect h.words q (Cell.Scanned g)) tells.tells ∙ ap (λ (b : Bool). cond b now.poll.local.view.begun (h.words (Cell.Scanned g))) (eq-eqb g g refl)) in
         is_number g tells (sym told_is ∙ ended)
 
     pub tells : TellsStacks given.layout h.words now
-    tells g other = go (same_cell (cell_of (asks given.layout now)) (cell.Scanned g)) refl where
-      scans : IsWritten given.layout now (cell.Scanned g) → LeavesStack given.layout h.words now g ⊎ ScansStack given.layout h.words now g
+    tells g other = go (same_cell (cell_of (asks given.layout now)) (Cell.Scanned g)) refl where
+      scans : IsWritten given.layout now (Cell.Scanned g) → LeavesStack given.layout h.words now g ⊎ ScansStack given.layout h.words now g
       scans (inl ends) = absurd (other ends.task_is)
       scans (inr y) = inr (record { tells = y; number = is_number g y; goes_on = goes_on g y })
 
-      by_ask : (q : Ask) → asks given.layout now ≡ q → cell_of q ≡ cell.Scanned g → WritesOf (IsWritten given.layout now) q → LeavesStack given.layout h.words now g ⊎ ScansStack given.layout h.words now g
-      by_ask (Load d) is at w = inl (record { same = ap (λ (q : Ask). effect h.words q (cell.Scanned g)) is; untold = λ number y. absurd (let no : Load d ≡ Store (cell.Scanned g) number = sym is ∙ y in cc) })
+      by_ask : (q : Ask) → asks given.layout now ≡ q → cell_of q ≡ Cell.Scanned g → WritesOf (IsWritten given.layout now) q → LeavesStack given.layout h.words now g ⊎ ScansStack given.layout h.words now g
+      by_ask (Load d) is at w = inl (record { same = ap (λ (q : Ask). effect h.words q (Cell.Scanned g)) is; untold = λ number y. absurd (let no : Load d ≡ Store (Cell.Scanned g) number = sym is ∙ y in cc) })
       by_ask _ is at w = scans (subst (IsWritten given.layout now) at w)
 
-      go : (b : Bool) → same_cell (cell_of (asks given.layout now)) (cell.Scanned g) ≡ b → LeavesStack given.layout h.words now g ⊎ ScansStack given.layout h.words now g
+      go : (b : Bool) → same_cell (cell_of (asks given.layout now)) (Cell.Scanned g) ≡ b → LeavesStack given.layout h.words now g ⊎ ScansStack given.layout h.words now g
       go true is = by_ask (asks given.layout now) refl (is_stack (cell_of (asks given.layout now)) g is) (lists.known.writes.writes given.layout now sound_now)
       go false is = inl (record {
-        same = lists.known.one h.words (asks given.layout now) (cell.Scanned g) ∙ ap (λ (b : Bool). cond b (left (asks given.layout now) (h.words (cell_of (asks given.layout now)))) (h.words (cell.Scanned g))) is;
-        untold = λ number y. absurd (let no : false ≡ true = sym is ∙ (ap (λ (q : Ask). same_cell (cell_of q) (cell.Scanned g)) y ∙ eq-eqb g g refl) in cc);
+        same = lists.known.one h.words (asks given.layout now) (Cell.Scanned g) ∙ ap (λ (b : Bool). cond b (left (asks given.layout now) (h.words (cell_of (asks given.layout now)))) (h.words (Cell.Scanned g))) is;
+        untold = λ number y. absurd (let no : false ≡ true = sym is ∙ (ap (λ (q : Ask). same_cell (cell_of q) (Cell.Scanned g)) y ∙ eq-eqb g g refl) in cc);
       })

@@ -1,29 +1,12 @@
 -- A step of a processor that is none of a sweep is a move of the one state, whatever the coordinator's stage: the step that makes an object leaves the bytes of its slot uncounted, and the one that counts them leaves none.
-use Rattle.std.proofs.Common.{◌≡◌, ◌≢◌, ℕ, ◌+◌, ◌*◌, ◌/◌, ◌%◌, ◌^◌, ◌<◌, ◌==◌, Bool, true, false, cond, refl, sym, ap, subst, ◌∙◌, arith, ◌⊎◌, inl, inr, Option, Some, None, eq-eqb}
-use Rattle.gh_base.specs.declared.cell.Cell.TheVariants as cell
-use Rattle.gh_base.specs.Rows.{with_word}
-use Rattle.gh_class.specs.declared.class.SizeClass.{SizeClass}
+use Rattle.std.proofs.Common.{◌≡◌, ◌≢◌, ℕ, ◌+◌, ◌*◌, ◌/◌, ◌%◌, ◌^◌, ◌<◌, ◌==◌, Bool, true, false, cond, refl, sym, ap, subst, ◌∙◌, arith, ◌⊎◌, inl, inr, Option, Some, None, eq-eqb, is_some}
+use Rattle.gh_marked.proofs.Vocabulary.{acted, acts, acts_at, Answer, Arena, asks, Cell, Claims, CountsObject, CountsStay, Deed, Does, effect, Ever, FactsAt, for_whom, Heap, InSpan, is_busy_at, is_own_class, IsSound, IsSweeping, Known, made_task, Make, MarksNothing, May, Move, moved, Name, nat_tests, next_name, number_of_class, page_words, pend_then, Place, placed_at, PlaceStage, Processor, ProcessorFacts, put, Row, seats_of, SeatSweepsNothing, SizeClass, slot_bytes_of, SpanHead, State, StateGood, sweep_in, Sweeping, takes, takes_at, Task, uncounted, View, view, Wanted, with_word, Words}
 use Rattle.gh_class.specs.Classes.{IsSizeClass, slot_of}
-use Rattle.gh_heap.specs.Moves.{Make, May, Move, placed_at}
-use Rattle.gh_heap.specs.Rights.{Claims}
-use Rattle.gh_heap.specs.Spans.{is_own_class, number_of_class}
-use Rattle.std.specs.Prelude.{is_some}
 use Rattle.gh_state.specs.Moves as state
-use Rattle.gh_state.specs.Moves.{Count, CountsStay, Deed, pend_then}
-use Rattle.gh_state.specs.Routines.{SeatSweepsNothing}
-use Rattle.gh_sweep.specs.Listing.{Sweeping, slot_bytes_of}
-use Rattle.gh_mutator.specs.Sweeping.{IsSweeping, sweep_in}
-use Rattle.gh_sweep.specs.Shared.{InSpan}
-use Rattle.gh_model.specs.Ever.{next_name}
-use Rattle.gh_alloc.specs.declared.place.PlaceStage.TheVariants as making
+use Rattle.gh_state.specs.Moves.{Count}
 use Rattle.gh_alloc.specs.Place as place
 use Rattle.gh_alloc.specs.PlaceFacts as facts_of
-use Rattle.gh_mutator.specs.declared.task.Task.TheVariants as task
-use Rattle.gh_mutator_heap.specs.Facts.{Does, FactsAt, for_whom}
-use Rattle.gh_mutator.specs.New.{made_task}
-use Rattle.gh_marked.specs.HoldVocabulary.{State, StateGood, View}
-use Rattle.gh_marked.proofs.Vocabulary.{acted, acts, acts_at, Answer, Arena, asks, Cell, effect, Ever, ProcessorFacts, Heap, is_busy_at, IsSound, MarksNothing, moved, Name, nat_tests, page_words, Place, PlaceStage, Placing, Processor, put, Row, seats_of, SpanHead, takes, takes_at, Task, uncounted, view, Wanted, Words, CountsObject}
-use Rattle.gh_marked.specs.Known.{Known}
+use Rattle.gh_alloc.specs.Place.{Placing}
 use Rattle.gh_marked.proofs.OneStep.Placing.{Counts, Keeps, kind, Makes}
 use Rattle.gh_marked.proofs.OneStep.Sweepers.{rests_counted, rests_on}
 
@@ -104,10 +87,10 @@ module _ (known : Known) (whole : WholeWords) (z : Arena) (a : ℕ) (s : State) 
 
   counts_stay : (CountsObject (asks z.layout m) m.task → ⊥) → CountsStay s.told s.heap.words t.words
   counts_stay silent = record {
-    heap = left_by cell.Heap (known.writes.leaves z.layout m h.words cell.Heap stepped.sound unheaped);
-    tally = λ over. left_by cell.Tally (known.writes.leaves z.layout m h.words cell.Tally stepped.sound no_sweep);
-    live = λ over. left_by cell.Live (known.writes.leaves z.layout m h.words cell.Live stepped.sound no_sweep);
-    marks = λ over i. left_by (cell.Mark i) (known.calm.leaves z.layout m h.words (cell.Mark i) (stepped.calm over) no_sweep);
+    heap = left_by Cell.Heap (known.writes.leaves z.layout m h.words Cell.Heap stepped.sound unheaped);
+    tally = λ over. left_by Cell.Tally (known.writes.leaves z.layout m h.words Cell.Tally stepped.sound no_sweep);
+    live = λ over. left_by Cell.Live (known.writes.leaves z.layout m h.words Cell.Live stepped.sound no_sweep);
+    marks = λ over i. left_by (Cell.Mark i) (known.calm.leaves z.layout m h.words (Cell.Mark i) (stepped.calm over) no_sweep);
   } where
     unheaped : CountsObject (asks z.layout m) m.task ⊎ IsSweeping m → ⊥
     unheaped (inl x) = silent x
@@ -146,7 +129,7 @@ module _ (known : Known) (whole : WholeWords) (z : Arena) (a : ℕ) (s : State) 
     others = others_left s.pend 0;
     rests = rests_counted known z a s;
   } where
-    t_is : t ≡ record (s.heap) { words = put s.heap.words cell.Heap ((s.heap.words cell.Heap + s.pend a) % 2 ^ 64) }
+    t_is : t ≡ record (s.heap) { words = put s.heap.words Cell.Heap ((s.heap.words Cell.Heap + s.pend a) % 2 ^ 64) }
     t_is = grind arith
 
   made_more : (x : ByMaking move) → t.ever.made x.g ≡ h.ever.made x.g + 1
@@ -168,7 +151,7 @@ module _ (known : Known) (whole : WholeWords) (z : Arena) (a : ℕ) (s : State) 
     p = x.placing
 
     abbrev at_place : Placing → Task
-    at_place q = task.New (record { wanted = w; stage = Place q })
+    at_place q = Task.New (record { wanted = w; stage = Place q })
 
     abbrev PlaceFacts : View → Placing → Type 0
     PlaceFacts u q = facts_of.Facts z a u (for_whom w) q
@@ -189,7 +172,7 @@ module _ (known : Known) (whole : WholeWords) (z : Arena) (a : ℕ) (s : State) 
     abbrev task_then : PlaceStage → Task
     task_then s = (takes_at z.layout z.shapes m (at_place (place.at_stage p s)) found).task
 
-    to_is : to.task ≡ task_then making.Alloc
+    to_is : to.task ≡ task_then PlaceStage.Alloc
     to_is = ap (λ (y : Task). (takes_at z.layout z.shapes m y found).task) x.is ∙ ap task_then x.stage
 
     abbrev task_behind : Option SpanHead → Task
@@ -198,14 +181,14 @@ module _ (known : Known) (whole : WholeWords) (z : Arena) (a : ℕ) (s : State) 
     made_now : MadeNow
     made_now = go p.span refl where
       go : (s : Option SpanHead) → p.span ≡ s → MadeNow
-      go None is = record { placing = place.at_stage p making.Count; task_is = to_is ∙ ap task_behind is; bytes = refl; made = λ u f. f.at }
+      go None is = record { placing = place.at_stage p PlaceStage.Count; task_is = to_is ∙ ap task_behind is; bytes = refl; made = λ u f. f.at }
       go (Some head) is = record { placing = place.at_stage p (place.made p (Some head)); task_is = to_is ∙ ap task_behind is; bytes = refl; made = λ u f. f.0.at }
 
     at_its_place : (n : Name) (at : ℕ) → placed_at h.place n at n ≡ at
     at_its_place n at = rw (eq-eqb n.g n.g refl) (rw (eq-eqb n.k n.k refl) refl)
 
     abbrev act_ever : Ever
-    act_ever = acted z.shapes h.ever (acts_at z.layout m (at_place (place.at_stage p making.Alloc)) found)
+    act_ever = acted z.shapes h.ever (acts_at z.layout m (at_place (place.at_stage p PlaceStage.Alloc)) found)
 
     ever_is : t.ever ≡ act_ever
     ever_is = stepped.does.ever ∙ (ap (λ (y : Task). acted z.shapes h.ever (acts_at z.layout m y found)) x.is ∙ ap (λ (s : PlaceStage). acted z.shapes h.ever (acts_at z.layout m (at_place (place.at_stage p s)) found)) x.stage)

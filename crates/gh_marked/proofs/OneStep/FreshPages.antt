@@ -1,16 +1,7 @@
 -- Whatever a processor that runs no sweep writes to a free page is one of a span for objects of one of the types: the span that it lays out is for the object that it is to make. Another step leaves the page free.
 use Rattle.std.proofs.Common.{◌≡◌, inl, inr, ℕ, ◌<◌, Bool, true, false, cond, eqb, refl, sym, ap, subst, ◌∙◌, arith, length, Option, Some, None}
 use Rattle.std.proofs.lemmas.Bool.{eqb-true}
-use Rattle.gh_base.specs.declared.cell.Ask.{Ask}
-use Rattle.gh_base.specs.declared.cell.Ask.TheVariants.{Load, Store}
-use Rattle.gh_base.specs.declared.cell.Cell.TheVariants as cell
-use Rattle.gh_base.specs.declared.pack.PageWord.{PageWord}
-use Rattle.gh_base.specs.declared.pack.PageWord.TheVariants.{Body, Free, Head}
-use Rattle.gh_base.specs.declared.pack.SpanHead.{SpanHead}
-use Rattle.gh_base.specs.Packing.{page_of}
-use Rattle.gh_base.specs.Shapes.{shape_at}
-use Rattle.gh_base.specs.Steps.{effect}
-use Rattle.gh_class.specs.declared.class.SpanClass.{SpanClass}
+use Rattle.gh_marked.proofs.Vocabulary.{Answer, Arena, Ask, asks, asks_at, Body, Cell, effect, FactsAt, Free, give_locked_at, GiveStageFacts, Head, Heap, is_locked_at, IsForTypes, IsPageFor, KnowsAt, KnowsNew, leave_locked_at, LeaveStage, LeaveStageFacts, Load, locked_new, NewFacts, NewStage, page_of, PageWord, poll_locked_at, Polling, PollStage, PollStageFacts, Processor, ProcessorFacts, rest, Searches, shape_at, Small, Sought, sought_for, span_for, SpanClass, SpanHead, Store, sweep_at, sweep_in, sweep_new, Task, View, view, waits_locked_at, WaitStage, WaitStageFacts, Wanted, Words}
 use Rattle.gh_pages.specs.declared.carve.Span.{Span}
 use Rattle.gh_pages.specs.Facts.{CarvesByItsRights, IsPageOf, LaysPage}
 use Rattle.gh_pages.specs.Listing as carve
@@ -23,43 +14,21 @@ use Rattle.gh_central.specs.SweptPass as pass
 use Rattle.gh_central.specs.UnsweptFacts.{SweepsByItsRights}
 use Rattle.gh_central.specs.UnsweptPass as unswept
 use Rattle.gh_alloc.specs.declared.find.FindStage.{FindStage}
-use Rattle.gh_alloc.specs.declared.find.FindStage.TheVariants as find_stage
 use Rattle.gh_alloc.specs.declared.search.SearchStage.{SearchStage}
-use Rattle.gh_alloc.specs.declared.search.SearchStage.TheVariants as search_stage
 use Rattle.gh_alloc.specs.declared.sought.CachedSpan.{CachedSpan}
-use Rattle.gh_alloc.specs.declared.sought.Sought.{Sought}
-use Rattle.gh_alloc.specs.declared.sought.Sought.TheVariants.{Small}
-use Rattle.gh_alloc.specs.Find.{Finding, span_for}
+use Rattle.gh_alloc.specs.Find.{Finding}
 use Rattle.gh_alloc.specs.Find as find
 use Rattle.gh_alloc.specs.FindFacts as finding
 use Rattle.gh_alloc.specs.Search.{Seeking}
 use Rattle.gh_alloc.specs.Search as search
 use Rattle.gh_alloc.specs.SearchFacts as searching
 use Rattle.gh_poll.specs.declared.give.GiveStage.{GiveStage}
-use Rattle.gh_poll.specs.declared.give.GiveStage.TheVariants as give_stage
-use Rattle.gh_poll.specs.declared.leave.LeaveStage.{LeaveStage}
-use Rattle.gh_poll.specs.declared.leave.LeaveStage.TheVariants as leave_stage
-use Rattle.gh_mutator.specs.declared.new.NewStage.TheVariants as new_stage
-use Rattle.gh_mutator.specs.declared.new.Wanted.{Wanted}
-use Rattle.gh_poll.specs.declared.poll.PollStage.{PollStage}
-use Rattle.gh_poll.specs.declared.poll.PollStage.TheVariants as poll_stage
-use Rattle.gh_mutator.specs.declared.task.Task.TheVariants as task
-use Rattle.gh_poll.specs.declared.wait.WaitStage.{WaitStage}
-use Rattle.gh_poll.specs.declared.wait.WaitStage.TheVariants as wait_stage
-use Rattle.gh_mutator_heap.specs.Facts.{FactsAt, is_locked_at, KnowsAt, KnowsNew, locked_new, NewFacts, rest, Searches}
 use Rattle.gh_poll.specs.Give as give
 use Rattle.gh_poll.specs.Leave as leave
-use Rattle.gh_mutator.specs.Listing.{asks, asks_at}
 use Rattle.gh_mutator.specs.New as new
-use Rattle.gh_mutator.specs.New.{sought_for}
-use Rattle.gh_poll.specs.Poll.{Polling}
 use Rattle.gh_poll.specs.Poll as poll
-use Rattle.gh_mutator_heap.specs.PollHeap.{give_locked_at, GiveStageFacts, leave_locked_at, LeaveStageFacts, poll_locked_at, PollStageFacts, WaitStageFacts, waits_locked_at}
-use Rattle.gh_mutator.specs.Sweeping.{sweep_at, sweep_in, sweep_new}
 use Rattle.gh_poll.specs.Wait.{Waiting, waiting}
 use Rattle.gh_poll.specs.Wait as wait
-use Rattle.gh_marked.specs.HoldVocabulary.{Answer, Arena, ProcessorFacts, Heap, NewStage, Processor, Task, View, view, Words}
-use Rattle.gh_marked.specs.Spans.{IsForTypes, IsPageFor}
 
 -- what the parts of a search write
 pub record WritesOfSearches : Type 0 where
@@ -68,7 +37,7 @@ pub record WritesOfSearches : Type 0 where
   pub reclaims : ReclaimsByItsRights
   pub carves : CarvesByItsRights
 
-module _ (parts : WritesOfSearches) (z : Arena) (a : ℕ) (h : Heap) (q : ℕ) (free : page_of (h.words (cell.Page q)) ≡ Free) where
+module _ (parts : WritesOfSearches) (z : Arena) (a : ℕ) (h : Heap) (q : ℕ) (free : page_of (h.words (Cell.Page q)) ≡ Free) where
   abbrev v : View
   v = view h
 
@@ -77,47 +46,47 @@ module _ (parts : WritesOfSearches) (z : Arena) (a : ℕ) (h : Heap) (q : ℕ) (
 
   -- what the step leaves of the page is for one of the types
   abbrev For : Ask → Type 0
-  For ask = IsForTypes z.shapes (page_of (effect w ask (cell.Page q)))
+  For ask = IsForTypes z.shapes (page_of (effect w ask (Cell.Page q)))
 
   abbrev ForPage : ℕ → Type 0
   ForPage word = IsForTypes z.shapes (page_of word)
 
-  still : ForPage (w (cell.Page q))
+  still : ForPage (w (Cell.Page q))
   still = inl free
 
-  elsewhere : (p value : ℕ) (k : SpanHead) → page_of (w (cell.Page p)) ≡ Head k → For (Store (cell.Page p) value)
+  elsewhere : (p value : ℕ) (k : SpanHead) → page_of (w (Cell.Page p)) ≡ Head k → For (Store (Cell.Page p) value)
   elsewhere p value k there = go (eqb p q) refl where
-    go : (b : Bool) → eqb p q ≡ b → ForPage (cond b value (w (cell.Page q)))
-    go true is = absurd (let no : Head k ≡ Free = sym there ∙ (ap (λ (n : ℕ). page_of (w (cell.Page n))) (eqb-true _ _ is) ∙ free) in cc)
+    go : (b : Bool) → eqb p q ≡ b → ForPage (cond b value (w (Cell.Page q)))
+    go true is = absurd (let no : Head k ≡ Free = sym there ∙ (ap (λ (n : ℕ). page_of (w (Cell.Page n))) (eqb-true _ _ is) ∙ free) in cc)
     go false is = still
 
-  onto : (p value : ℕ) → ForPage value → For (Store (cell.Page p) value)
+  onto : (p value : ℕ) → ForPage value → For (Store (Cell.Page p) value)
   onto p value is = go (eqb p q) where
-    go : (b : Bool) → ForPage (cond b value (w (cell.Page q)))
+    go : (b : Bool) → ForPage (cond b value (w (Cell.Page q)))
     go true = is
     go false = still
 
-  freed : (p : ℕ) → For (Store (cell.Page p) 0)
+  freed : (p : ℕ) → For (Store (Cell.Page p) 0)
   freed p = grind (arith, onto)
 
   -- Spans are given back.
   gives : (g : give.Giving) (s : GiveStage) → give_locked_at s ≡ true → GiveStageFacts z a v g s → For (give.asks_at g s)
-  gives g (give_stage.GiveSpan class s) locked f = let k = (f.caches class s (omega arith) f.among f.here).span in elsewhere s.head _ k.h k.head
-  gives g give_stage.Unlock locked f = still
-  gives g give_stage.Lock locked f = absurd (cc)
-  gives g (give_stage.GiveBuffer b) locked f = absurd (cc)
-  gives g give_stage.Ended locked f = absurd (cc)
+  gives g (GiveStage.GiveSpan class s) locked f = let k = (f.caches class s (omega arith) f.among f.here).span in elsewhere s.head _ k.h k.head
+  gives g GiveStage.Unlock locked f = still
+  gives g GiveStage.Lock locked f = absurd (cc)
+  gives g (GiveStage.GiveBuffer b) locked f = absurd (cc)
+  gives g GiveStage.Ended locked f = absurd (cc)
 
   polls_at : (p : Polling) (s : PollStage) → poll_locked_at s ≡ true → PollStageFacts z a v p s → For (poll.asks_at s)
-  polls_at p (poll_stage.Giving g stops) locked f = gives g g.stage locked f.stage_is
+  polls_at p (PollStage.Giving g stops) locked f = gives g g.stage locked f.stage_is
   polls_at p _ locked f = absurd (cc)
 
   waits_at : (x : Waiting) (s : WaitStage) → waits_locked_at x.poll s ≡ true → WaitStageFacts z a v x.poll s → For (wait.asks_at x s)
-  waits_at x wait_stage.Polling locked f = polls_at x.poll x.poll.stage locked f.stage_is
+  waits_at x WaitStage.Polling locked f = polls_at x.poll x.poll.stage locked f.stage_is
   waits_at x _ locked f = absurd (cc)
 
   leaves_at : (x : leave.Leaving) (s : LeaveStage) → leave_locked_at s ≡ true → LeaveStageFacts z a v s → For (leave.asks_at x s)
-  leaves_at x (leave_stage.Giving g) locked f = gives g g.stage locked f.stage_is
+  leaves_at x (LeaveStage.Giving g) locked f = gives g g.stage locked f.stage_is
   leaves_at x _ locked f = absurd (cc)
 
   -- A slot is looked for.
@@ -125,12 +94,12 @@ module _ (parts : WritesOfSearches) (z : Arena) (a : ℕ) (h : Heap) (q : ℕ) (
   -- what is written is a head where one stands, or a free page
   heads : (step : Ask) → WritesHead v.page step → For step
   heads (Load c) is = still
-  heads (Store (cell.Page p) word) is = elsewhere p word is.0 is.1
+  heads (Store (Cell.Page p) word) is = elsewhere p word is.0 is.1
   heads _ is = absurd is
 
   frees : (step : Ask) → FreesPage step → For step
   frees (Load c) is = still
-  frees (Store (cell.Page p) word) is = subst (λ (x : ℕ). For (Store (cell.Page p) x)) (sym is) (freed p)
+  frees (Store (Cell.Page p) word) is = subst (λ (x : ℕ). For (Store (Cell.Page p) x)) (sym is) (freed p)
   frees _ is = absurd is
 
   -- the cached span is given back
@@ -149,26 +118,26 @@ module _ (parts : WritesOfSearches) (z : Arena) (a : ℕ) (h : Heap) (q : ℕ) (
     -- or a page of the span that is laid out
     lays : (step : Ask) → LaysPage span step → For step
     lays (Load c) is = still
-    lays (Store (cell.Page p) word) is = onto p word (inr (t, type, page_for (page_of word) is))
+    lays (Store (Cell.Page p) word) is = onto p word (inr (t, type, page_for (page_of word) is))
     lays _ is = absurd is
 
     finds : (sure : Bool) (rest : ℕ → Bool) (f : Finding) (s : FindStage) → f.wanted ≡ sought_for (shape_at z.shapes t) → finding.Caches a v f.wanted f.cached → finding.is_locked s ≡ true → find.sweep_at s ≡ None → finding.FactsAt z a sure v f s → For (find.asks_at z.layout f s)
-    finds sure rest f (find_stage.Give g) wanted caches locked none x = gives_back x.c x.k f g (cached x.for.wanted x.for.cached caches) x.is where
+    finds sure rest f (FindStage.Give g) wanted caches locked none x = gives_back x.c x.k f g (cached x.for.wanted x.for.cached caches) x.is where
       cached : {c : SpanClass} {k : CachedSpan} → f.wanted ≡ Small c → f.cached ≡ Some k → finding.Caches a v f.wanted f.cached → finding.IsCached a v c k
       cached {c} {k} small some caches = subst (λ (o : Option CachedSpan). finding.Caches a v (Small c) o) some (subst (λ (s : Sought). finding.Caches a v s f.cached) small caches)
-    finds sure rest f (find_stage.Unswept u) wanted caches locked none x = heads (unswept.asks z.layout u) (parts.sweeps.heads z a v u x.facts none)
-    finds sure rest f (find_stage.Pass p) wanted caches locked none x = heads (pass.asks z.layout p) (parts.passes.heads z a sure v p x.facts)
-    finds sure rest f (find_stage.Carve c) wanted caches locked none x =
+    finds sure rest f (FindStage.Unswept u) wanted caches locked none x = heads (unswept.asks z.layout u) (parts.sweeps.heads z a v u x.facts none)
+    finds sure rest f (FindStage.Pass p) wanted caches locked none x = heads (pass.asks z.layout p) (parts.passes.heads z a sure v p x.facts)
+    finds sure rest f (FindStage.Carve c) wanted caches locked none x =
         lays (carve.asks c) (subst (λ (y : Span). LaysPage y (carve.asks c)) (ap (λ (y : carve.Carving). y.span) x.is ∙ ap span_for wanted) (parts.carves.lays z a v c x.facts))
-    finds sure rest f (find_stage.Unlock after) wanted caches locked none x = still
-    finds sure rest f (find_stage.Slots s) wanted caches locked none x = absurd (cc)
-    finds sure rest f find_stage.Lock wanted caches locked none x = absurd (cc)
-    finds sure rest f (find_stage.Ended out) wanted caches locked none x = absurd (cc)
+    finds sure rest f (FindStage.Unlock after) wanted caches locked none x = still
+    finds sure rest f (FindStage.Slots s) wanted caches locked none x = absurd (cc)
+    finds sure rest f FindStage.Lock wanted caches locked none x = absurd (cc)
+    finds sure rest f (FindStage.Ended out) wanted caches locked none x = absurd (cc)
 
     seeks : (rest : ℕ → Bool) (f : Finding) (s : SearchStage) → f.wanted ≡ sought_for (shape_at z.shapes t) → searching.is_locked f s ≡ true → search.sweep_at f s ≡ None → searching.FactsAt z a v rest f s → For (search.asks_at z.layout f s)
-    seeks rest f search_stage.First wanted locked none x = finds false rest f f.stage wanted x.facts.caches locked none x.facts.stage
-    seeks rest f (search_stage.Free r) wanted locked none x = frees (reclaim.asks z.layout r) (parts.reclaims.frees z.layout r none)
-    seeks rest f search_stage.Second wanted locked none x = finds true rest f f.stage wanted x.facts.caches locked none x.facts.stage
+    seeks rest f SearchStage.First wanted locked none x = finds false rest f f.stage wanted x.facts.caches locked none x.facts.stage
+    seeks rest f (SearchStage.Free r) wanted locked none x = frees (reclaim.asks z.layout r) (parts.reclaims.frees z.layout r none)
+    seeks rest f SearchStage.Second wanted locked none x = finds true rest f f.stage wanted x.facts.caches locked none x.facts.stage
 
   -- At each task.
   module _ (m : Processor) (pending : Option Answer) where
@@ -178,17 +147,17 @@ module _ (parts : WritesOfSearches) (z : Arena) (a : ℕ) (h : Heap) (q : ℕ) (
         seeks wanted.t f.wants.type (rest m wanted) s.find s.stage (f.wanted ∙ sought) locked none f.facts
 
     new_page : (wanted : Wanted) (s : NewStage) → locked_new m s ≡ true → sweep_new s ≡ None → KnowsNew z a v m.poll s → NewFacts z a v m wanted pending s → For (new.asks_at z.layout m s)
-    new_page wanted (new_stage.Search waited s) locked none k f = searches wanted s f locked none
-    new_page wanted (new_stage.Wait x) locked none k f = waits_at (waiting x m.poll) x.stage locked k
-    new_page wanted (new_stage.Place x) locked none k f = absurd (cc)
-    new_page wanted (new_stage.Want n) locked none k f = absurd (cc)
-    new_page wanted (new_stage.Assist n x) locked none k f = absurd (cc)
+    new_page wanted (NewStage.Search waited s) locked none k f = searches wanted s f locked none
+    new_page wanted (NewStage.Wait x) locked none k f = waits_at (waiting x m.poll) x.stage locked k
+    new_page wanted (NewStage.Place x) locked none k f = absurd (cc)
+    new_page wanted (NewStage.Want n) locked none k f = absurd (cc)
+    new_page wanted (NewStage.Assist n x) locked none k f = absurd (cc)
 
     at_task : (t : Task) → is_locked_at m t ≡ true → sweep_at t ≡ None → KnowsAt z a v m.poll t → FactsAt z a v m pending t → For (asks_at z.layout m t)
-    at_task (task.New x) locked none k f = new_page x.wanted x.stage locked none k f
-    at_task (task.Gc g x) locked none k f = waits_at (waiting x m.poll) x.stage locked k
-    at_task task.Poll locked none k f = polls_at m.poll m.poll.stage locked k.stage_is
-    at_task (task.Leave x) locked none k f = leaves_at x x.stage locked k.stage_is
+    at_task (Task.New x) locked none k f = new_page x.wanted x.stage locked none k f
+    at_task (Task.Gc g x) locked none k f = waits_at (waiting x m.poll) x.stage locked k
+    at_task Task.Poll locked none k f = polls_at m.poll m.poll.stage locked k.stage_is
+    at_task (Task.Leave x) locked none k f = leaves_at x x.stage locked k.stage_is
     at_task _ locked none k f = absurd (cc)
 
     -- with the lock

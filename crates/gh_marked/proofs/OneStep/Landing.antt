@@ -1,27 +1,14 @@
 -- One entry more of a processor, whatever the coordinator's stage: its step is a move of the one state, over the heap by its rights or one of the sweep that it runs, and what is known of it holds behind.
 use Rattle.std.proofs.Common.{◌≡◌, ◌≢◌, ℕ, ◌<◌, Bool, true, false, cond, refl, sym, ap, subst, ◌∙◌, arith, Option, Some, None, List, ◌∷◌}
-use Rattle.gh_base.specs.declared.cell.Cell.TheVariants as cell
-use Rattle.gh_base.specs.Cells.{seats_of}
+use Rattle.gh_marked.proofs.Vocabulary.{Answer, Arena, arena, Ask, asks, begins, BeginsSweep, Cell, cell_of, DoesPoints, effect, Entry, Given, has_left_at, HasState, Heap, idle_sweeps_none, is_busy_at, IsInLimits, IsInSweep, Known, Legal, MarksNothing, may_of, moved, Op, Others, Processor, processor_at, processor_kind, ProcessorFacts, Row, runs_are, seats_of, SeatSweepsNothing, setup_for, Shape, ShapesAreGood, started, State, StateGood, Steps, sweep_in, sweep_of, Sweeping, SweepKeeps, SweepsOn, takes, those, uncounted, view, Words}
 use Rattle.gh_central.specs.Sweeping.{SweepLeaves}
-use Rattle.gh_heap.specs.Moves.{Others}
-use Rattle.gh_mutator.specs.Sweeping.{sweep_in}
 use Rattle.gh_state.specs.Moves as state
-use Rattle.gh_state.specs.Routines.{SweepKeeps}
 use Rattle.gh_sweep.specs.Listing as sweep
-use Rattle.gh_sweep.specs.Listing.{Sweeping}
-use Rattle.gh_sweep.specs.Running.{BeginsSweep, SweepsOn}
-use Rattle.gh_marked.specs.HoldVocabulary.{SeatSweepsNothing, State, StateGood}
-use Rattle.gh_marked.specs.Sweepers.{IsInSweep, sweep_of}
-use Rattle.gh_marked.proofs.Vocabulary.{Answer, Arena, arena, Ask, asks, begins, cell_of, DoesPoints, effect, Entry, ProcessorFacts, has_left_at, HasState, Heap, is_busy_at, IsInLimits, Legal, MarksNothing, may_of, moved, Op, Processor, processor_at, processor_kind, Row, Shape, ShapesAreGood, started, Steps, takes, those, uncounted, view, Words}
 use Rattle.gh_marked.proofs.OneStep.Counting as counting
-use Rattle.gh_marked.specs.Known.{Known}
 use Rattle.gh_marked.proofs.OneStep.OwnStep as step
 use Rattle.gh_marked.proofs.OneStep.Placing.{idle_plain, sweeps_plain}
-use Rattle.gh_lists.specs.Sweeping.{idle_sweeps_none}
-use Rattle.gh_lists.specs.Resting.{runs_are}
 use Rattle.gh_marked.proofs.OneStep.Sweepers as sweepers
 use Rattle.gh_marked.proofs.OneStep.Wanted.{Wanted}
-use Rattle.gh_lists.specs.Lists.{Given, setup_for}
 
 -- what begins has placed nothing
 begun_places : (shapes : List Shape) (m : Processor) (o : Op) (b : Bool) → is_busy_at m.task ≡ false → uncounted (cond b m (begins shapes m o)).task ≡ 0
@@ -145,8 +132,8 @@ module _ (given : Given) (good : ShapesAreGood given.shapes) (limits : IsInLimit
           same_words : (c : _) → t.heap.words c ≡ h.words c
           same_words c = ap (λ (w : Words). w c) words_then ∙ ap (λ (q : Ask). effect h.words q c) b.step_is
 
-          number : (view h).generation ≡ t.heap.words cell.Gen
-          number = sym (same_words cell.Gen)
+          number : (view h).generation ≡ t.heap.words Cell.Gen
+          number = sym (same_words Cell.Gen)
 
           loaded : found ≡ t.heap.words (cell_of (asks given.layout now))
           loaded = sym (same_words (cell_of (asks given.layout now)))

@@ -1,17 +1,6 @@
 -- One entry more, whose step leaves to each other seat what the moves of others do: what is known of all others lasts.
 use Rattle.std.proofs.Common.{◌≡◌, ◌≢◌, ◌↔◌, ℕ, ◌<◌, ◌≤◌, ◌==◌, ◌⊎◌, inl, inr, Bool, true, false, refl, sym, ap, subst, ◌∙◌, arith, List, ◌∷◌, ◌++◌, Some, None}
-use Rattle.std.proofs.lemmas.Bool.Decides.{nat_tests}
-use Rattle.std.specs.Option.{option_to_list}
-use Rattle.gh_base.specs.declared.cell.Cell.TheVariants as cell
-use Rattle.gh_base.specs.declared.operation.Op.TheVariants as op
-use Rattle.gh_base.specs.declared.pack.TheConstants.{END}
-use Rattle.gh_base.specs.Lists.{by}
-use Rattle.gh_heap.specs.Moves.{Others}
-use Rattle.gh_marked.specs.State.{IsAsItShould, IsHeapOf, processor_at}
-use Rattle.gh_marked.specs.HoldVocabulary.{Answer, Arena, arena, deeds, ended_in, Entry, ever, Good, Heap, IsBounded, IsOf, Op, Processor, Right, view, words}
-use Rattle.gh_marked.specs.Known.{Known}
-use Rattle.gh_lists.specs.Resting.{answers_stay, given_stay, own_stay, state_stays}
-use Rattle.gh_lists.specs.Handshake.{Setup}
+use Rattle.gh_marked.proofs.Vocabulary.{Answer, answers_stay, Arena, arena, by, Cell, deeds, END, ended_in, Entry, ever, given_stay, Good, Heap, IsAsItShould, IsBounded, IsHeapOf, IsOf, Known, nat_tests, Op, option_to_list, Others, own_stay, Processor, processor_at, Right, Setup, state_stays, view, words}
 
 same_seat : (a b : ℕ) → (a == b) ≡ true → a ≡ b
 same_seat a b x = grind (arith, nat_tests)
@@ -29,9 +18,9 @@ module _ (setup : Setup) (known : Known) where
       pub words_are : t.words ≡ words setup (e ∷ es)
       pub ever_is : t.ever ≡ ever setup (e ∷ es)
       pub bounded : IsBounded z t.ever
-      pub stacks : (g : ℕ) → (t.words (cell.Scanned g) ≡ END) ↔ (t.ever.ended g ≡ true)
-      pub others_stacks : (b g : ℕ) → b ≢ a → IsOf z b g → t.words (cell.Scanned g) ≡ h.words (cell.Scanned g)
-      pub globals : (i : ℕ) → setup.layout.globals ≤ i → t.words (cell.Global i) ≡ 0
+      pub stacks : (g : ℕ) → (t.words (Cell.Scanned g) ≡ END) ↔ (t.ever.ended g ≡ true)
+      pub others_stacks : (b g : ℕ) → b ≢ a → IsOf z b g → t.words (Cell.Scanned g) ≡ h.words (Cell.Scanned g)
+      pub globals : (i : ℕ) → setup.layout.globals ≤ i → t.words (Cell.Global i) ≡ 0
       pub own : a < setup.layout.procs → IsAsItShould setup (e ∷ es) t a (processor_at setup (e ∷ es) a)
       pub right : setup.layout.procs ≤ a → Right a (view t) false (λ p. false) None
 
@@ -43,11 +32,11 @@ module _ (setup : Setup) (known : Known) where
         o : Others z b (view h) (view t)
         o = others_leave b (apart b x)
 
-        ended_was : (g : ℕ) → IsOf z b g → ((deeds setup.layout setup.shapes).unacted p ≡ Some (op.End g)) ⊎ (t.ever.ended g ≡ true) → ((deeds setup.layout setup.shapes).unacted p ≡ Some (op.End g)) ⊎ (h.ever.ended g ≡ true)
+        ended_was : (g : ℕ) → IsOf z b g → ((deeds setup.layout setup.shapes).unacted p ≡ Some (Op.End g)) ⊎ (t.ever.ended g ≡ true) → ((deeds setup.layout setup.shapes).unacted p ≡ Some (Op.End g)) ⊎ (h.ever.ended g ≡ true)
         ended_was g its (inl y) = inl y
         ended_was g its (inr y) = inr (sym (o.ends g its) ∙ y)
 
-        ended_is : (g : ℕ) → IsOf z b g → ((deeds setup.layout setup.shapes).unacted p ≡ Some (op.End g)) ⊎ (h.ever.ended g ≡ true) → ((deeds setup.layout setup.shapes).unacted p ≡ Some (op.End g)) ⊎ (t.ever.ended g ≡ true)
+        ended_is : (g : ℕ) → IsOf z b g → ((deeds setup.layout setup.shapes).unacted p ≡ Some (Op.End g)) ⊎ (h.ever.ended g ≡ true) → ((deeds setup.layout setup.shapes).unacted p ≡ Some (Op.End g)) ⊎ (t.ever.ended g ≡ true)
         ended_is g its (inl y) = inl y
         ended_is g its (inr y) = inr (o.ends g its ∙ y)
 

@@ -1,27 +1,15 @@
 -- A processor's step, by its rights or of the sweep that it runs: what is said of the processor, of its stacks and of the globals holds behind it. So it is while spans are swept, between two cycles, and while one is marked.
-use Rattle.std.proofs.Common.{◌≡◌, ◌≢◌, ◌↔◌, ℕ, ◌<◌, ◌≤◌, ◌⊎◌, inl, inr, Bool, true, false, cond, refl, sym, ap, subst, ◌∙◌, arith, List, ◌∷◌, ◌++◌, append_assoc, map, slice_index, length, Option, Some, None, eq-eqb}
-use Rattle.std.specs.Prelude.{◌||◌}
-use Rattle.gh_base.specs.declared.cell.Cell.TheVariants as cell
-use Rattle.gh_base.specs.declared.operation.Op.TheVariants as op
-use Rattle.gh_mutator.specs.declared.task.Task.TheVariants as task
-use Rattle.gh_mutator.specs.Deeds.{meaning, pointed}
-use Rattle.gh_mutator_heap.specs.Facts.{answered_at, Does, FactsAt}
+use Rattle.std.proofs.Common.{◌≡◌, ◌≢◌, ◌↔◌, ℕ, ◌<◌, ◌≤◌, ◌⊎◌, inl, inr, Bool, true, false, cond, refl, sym, ap, subst, ◌∙◌, arith, List, ◌∷◌, ◌++◌, append_assoc, map, slice_index, length, Option, Some, None, eq-eqb, ◌||◌}
+use Rattle.gh_marked.proofs.Vocabulary.{Act, acted, acts, all_ended_at, Answer, answered, answered_at, answered_by, AnsweredDeed, answers_of, Arena, arena, Ask, asks, began_end, begins, by, Cell, cell_of, deeds, DeedsFit, Does, effect, END, ended_in, ends, Entry, Ever, ever, FactsAt, Given, given_at, given_of, gives, Good, has_left_at, has_point, HasState, Heap, InRange, is_busy_at, is_last_task, IsAsItShould, IsBounded, IsHeapOf, IsInLimits, IsOf, IsSound, Kind, Known, KnowsAtAnyTime, left_by, Legal, may_leave, may_of, may_parts, meaning, Op, op_at, opening_words, option_to_list, or-true, or_cases, or_left, point_of, pointed, Processor, processor_at, processor_kind, ProcessorFacts, setup_for, ShapesAreGood, started, State, state_of, takes, Task, TellsScan, TellsStacks, those, view, Words, words}
 use Rattle.gh_state.specs.Moves as state
-use Rattle.gh_marked.specs.HoldVocabulary.{answers_of, given_of, opening_words, State}
-use Rattle.gh_marked.proofs.Vocabulary.{Act, acted, Actor, actors, acts, Answer, answered, answered_by, AnsweredDeed, Arena, arena, Ask, asks, begins, by, cell_of, deeds, DeedsFit, effect, END, ended_in, ends, Entry, Ever, ever, ProcessorFacts, given_at, gives, Good, has_left_at, has_point, HasState, Heap, InRange, is_busy_at, is_last_task, IsAsItShould, IsBounded, IsHeapOf, IsInLimits, IsOf, IsSound, Kind, KnowsAtAnyTime, left as left_by, Legal, may_leave, may_of, Op, op_at, option_to_list, point_of, Processor, processor_at, processor_kind, ShapesAreGood, started, state_of, takes, Task, TellsScan, those, view, Words, words}
-use Rattle.gh_lists.specs.Beginning.{or-true, may_parts}
 use Rattle.gh_marked.specs.Endings.{acted_stays, acts_end, end_ends, ended_by, is_its_end, last_before, last_begun}
 use Rattle.gh_marked.proofs.OneStep.Globals.{no_global}
-use Rattle.gh_marked.specs.Known.{Known}
 use Rattle.gh_marked.proofs.OneStep.Landing as landing
 use Rattle.gh_marked.proofs.OneStep.OwnStep as step
 use Rattle.gh_marked.proofs.OneStep.Moves.{moves_on, OwnSide}
-use Rattle.gh_marked.specs.OwnEntries.{all_ended_at, began_end, or_cases, or_left}
 use Rattle.gh_marked.proofs.OneStep.Ranging.{bounded_then, unacted_begun}
 use Rattle.gh_marked.proofs.OneStep.Refusals.{point_is}
-use Rattle.gh_marked.specs.StackWords.{TellsStacks}
 use Rattle.gh_marked.proofs.OneStep.Wanted.{Wanted}
-use Rattle.gh_lists.specs.Lists.{Given, setup_for}
 
 module _ (given : Given) (good : ShapesAreGood given.shapes) (limits : IsInLimits given.layout) (known : Known) (wanted : Wanted) where
   abbrev may : ℕ → List (Entry Op) → Op → Bool
@@ -32,9 +20,6 @@ module _ (given : Given) (good : ShapesAreGood given.shapes) (limits : IsInLimit
 
   abbrev k : Kind Processor Op
   k = processor_kind given.shapes given.layout
-
-  abbrev all : Kind Actor Op
-  all = actors (setup_for given)
 
   module _ (e : Entry Op) (es : List (Entry Op)) (legal : Legal (those (setup_for given)) (e ∷ es)) (lt : e.actor < given.layout.procs) (has : HasState (setup_for given) es) (land : landing.Lands given good limits known wanted e es legal lt has) (tells : TellsStacks given.layout has.state.heap.words (started k e.begun (processor_at (setup_for given) es e.actor))) where
     -- The heap behind the list.
@@ -116,27 +101,27 @@ module _ (given : Given) (good : ShapesAreGood given.shapes) (limits : IsInLimit
     ended_on : (g : ℕ) → h.ever.ended g ≡ true → t.ever.ended g ≡ true
     ended_on g x = ap (λ (y : Ever). y.ended g) does.ever ∙ acted_stays given.layout given.shapes now found h.ever g (acts given.layout now found) x
 
-    ended_was : (g : ℕ) → t.ever.ended g ≡ true → (h.ever.ended g ≡ true) ⊎ (now.task ≡ task.End g)
+    ended_was : (g : ℕ) → t.ever.ended g ≡ true → (h.ever.ended g ≡ true) ⊎ (now.task ≡ Task.End g)
     ended_was g x = ended_by given.layout given.shapes now found h.ever g (ap (λ (y : Ever). y.ended g) (sym does.ever) ∙ x)
 
-    ends_it : (g : ℕ) → now.task ≡ task.End g → t.ever.ended g ≡ true
+    ends_it : (g : ℕ) → now.task ≡ Task.End g → t.ever.ended g ≡ true
     ends_it g x = ap (λ (y : Ever). y.ended g) does.ever ∙ end_ends given.layout given.shapes now found h.ever g x
 
-    pub word_ends : (g : ℕ) → now.task ≡ task.End g → t.words (cell.Scanned g) ≡ END
-    word_ends g x = ap (λ (w : Words). w (cell.Scanned g)) (land.words_are ∙ ap (effect h.words) (known.notes.ends given.layout now g x)) ∙ ap (λ (b : Bool). cond b END (h.words (cell.Scanned g))) (eq-eqb g g refl)
+    pub word_ends : (g : ℕ) → now.task ≡ Task.End g → t.words (Cell.Scanned g) ≡ END
+    word_ends g x = ap (λ (w : Words). w (Cell.Scanned g)) (land.words_are ∙ ap (effect h.words) (known.notes.ends given.layout now g x)) ∙ ap (λ (b : Bool). cond b END (h.words (Cell.Scanned g))) (eq-eqb g g refl)
 
     -- The words of stacks.
 
-    then_word : (g : ℕ) → t.words (cell.Scanned g) ≡ effect h.words (asks given.layout now) (cell.Scanned g)
-    then_word g = ap (λ (w : Words). w (cell.Scanned g)) land.words_are
+    then_word : (g : ℕ) → t.words (Cell.Scanned g) ≡ effect h.words (asks given.layout now) (Cell.Scanned g)
+    then_word g = ap (λ (w : Words). w (Cell.Scanned g)) land.words_are
 
-    word_is : (g : ℕ) → TellsScan given.layout now g → t.words (cell.Scanned g) ≡ now.poll.local.view.begun
-    word_is g x = then_word g ∙ (ap (λ (q : Ask). effect h.words q (cell.Scanned g)) x.tells ∙ ap (λ (b : Bool). cond b now.poll.local.view.begun (h.words (cell.Scanned g))) (eq-eqb g g refl))
+    word_is : (g : ℕ) → TellsScan given.layout now g → t.words (Cell.Scanned g) ≡ now.poll.local.view.begun
+    word_is g x = then_word g ∙ (ap (λ (q : Ask). effect h.words q (Cell.Scanned g)) x.tells ∙ ap (λ (b : Bool). cond b now.poll.local.view.begun (h.words (Cell.Scanned g))) (eq-eqb g g refl))
 
-    goes_on : (g : ℕ) → (now.task ≡ task.End g → ⊥) → t.ever.ended g ≡ true → h.ever.ended g ≡ true
+    goes_on : (g : ℕ) → (now.task ≡ Task.End g → ⊥) → t.ever.ended g ≡ true → h.ever.ended g ≡ true
     goes_on g other y = elim (ended_was g y) [ inl x ↦ x | inr x ↦ absurd (other x) ]
 
-    pub stacks : (g : ℕ) → (t.words (cell.Scanned g) ≡ END) ↔ (t.ever.ended g ≡ true)
+    pub stacks : (g : ℕ) → (t.words (Cell.Scanned g) ≡ END) ↔ (t.ever.ended g ≡ true)
     stacks g = elim (is_its_end now.task g) [
       | inl x ↦ (λ y. ends_it g x, λ y. word_ends g x)
       | inr other ↦ elim (tells g other) [
@@ -151,7 +136,7 @@ module _ (given : Given) (good : ShapesAreGood given.shapes) (limits : IsInLimit
     own_goroutine : (g : ℕ) → TellsScan given.layout now g → z.seat_of g ≡ a
     own_goroutine g x = x.own ∙ stands.sits.seat
 
-    pub others_stacks : (b g : ℕ) → b ≢ a → IsOf z b g → t.words (cell.Scanned g) ≡ h.words (cell.Scanned g)
+    pub others_stacks : (b g : ℕ) → b ≢ a → IsOf z b g → t.words (Cell.Scanned g) ≡ h.words (Cell.Scanned g)
     others_stacks b g apart its = elim (is_its_end now.task g) [
       | inl x ↦ absurd (let f = subst (FactsAt z a (view h) now is.pending) x fine_now.task in apart (sym its.1 ∙ f.0.of.1))
       | inr other ↦ elim (tells g other) [
@@ -175,7 +160,7 @@ module _ (given : Given) (good : ShapesAreGood given.shapes) (limits : IsInLimit
         let below = its.0 in
         omega (arith, long, few, below)
 
-    notes : (g : ℕ) → IsOf z a g → slice_index then.poll.local.scanned g ≡ t.words (cell.Scanned g)
+    notes : (g : ℕ) → IsOf z a g → slice_index then.poll.local.scanned g ≡ t.words (Cell.Scanned g)
     notes g its = elim (is_its_end now.task g) [
       | inl x ↦ known.notes.notes given.layout given.shapes now found g END sound_now (known.notes.ends given.layout now g x) (there g its) ∙ sym (word_ends g x)
       | inr other ↦ elim (tells g other) [
@@ -188,35 +173,35 @@ module _ (given : Given) (good : ShapesAreGood given.shapes) (limits : IsInLimit
     unacted p = (deeds given.layout given.shapes).unacted p
 
     -- what was still to act, is still to act or acts now
-    acts_or_waits : (g : ℕ) → unacted now ≡ Some (op.End g) → (unacted then ≡ Some (op.End g)) ⊎ (t.ever.ended g ≡ true)
+    acts_or_waits : (g : ℕ) → unacted now ≡ Some (Op.End g) → (unacted then ≡ Some (Op.End g)) ⊎ (t.ever.ended g ≡ true)
     acts_or_waits g x = go ((deeds given.layout given.shapes).acts now found) refl where
-      go : (p : Option Act) → (deeds given.layout given.shapes).acts now found ≡ p → (unacted then ≡ Some (op.End g)) ⊎ (t.ever.ended g ≡ true)
+      go : (p : Option Act) → (deeds given.layout given.shapes).acts now found ≡ p → (unacted then ≡ Some (Op.End g)) ⊎ (t.ever.ended g ≡ true)
       go None none = inl (fit.goes_on now found busy none ∙ x)
       go (Some p) some =
-          let same : Some p.op ≡ Some (op.End g) = sym (fit.acts_for now found p busy some) ∙ x in
-          let one : p.op ≡ op.End g = cc in
+          let same : Some p.op ≡ Some (Op.End g) = sym (fit.acts_for now found p busy some) ∙ x in
+          let one : p.op ≡ Op.End g = cc in
           inr (ends_it g (acts_end given.layout now now.task found p g (point_is (acts given.layout now found) p some) one))
 
     -- and nothing else is to act behind the step
-    was_waiting : (g : ℕ) → unacted then ≡ Some (op.End g) → unacted now ≡ Some (op.End g)
+    was_waiting : (g : ℕ) → unacted then ≡ Some (Op.End g) → unacted now ≡ Some (Op.End g)
     was_waiting g x = go ((deeds given.layout given.shapes).acts now found) refl where
-      go : (p : Option Act) → (deeds given.layout given.shapes).acts now found ≡ p → unacted now ≡ Some (op.End g)
+      go : (p : Option Act) → (deeds given.layout given.shapes).acts now found ≡ p → unacted now ≡ Some (Op.End g)
       go None none = sym (fit.goes_on now found busy none) ∙ x
-      go (Some p) some = absurd (let no : None ≡ Some (op.End g) = sym (fit.acts_once now found p busy some) ∙ x in cc)
+      go (Some p) some = absurd (let no : None ≡ Some (Op.End g) = sym (fit.acts_once now found p busy some) ∙ x in cc)
 
     -- what is to act now was so, or begins
-    waits_or_begins : (g : ℕ) → unacted now ≡ Some (op.End g) → (unacted m ≡ Some (op.End g)) ⊎ (e.begun ≡ Some (op.End g))
+    waits_or_begins : (g : ℕ) → unacted now ≡ Some (Op.End g) → (unacted m ≡ Some (Op.End g)) ⊎ (e.begun ≡ Some (Op.End g))
     waits_or_begins g x = go e.begun refl where
-      by_point : (o : Op) → e.begun ≡ Some o → (b : Bool) → has_point o ≡ b → cond b (Some o) None ≡ Some (op.End g) → e.begun ≡ Some (op.End g)
-      by_point o begun true y same = let one : Some o ≡ Some (op.End g) = same in begun ∙ one
+      by_point : (o : Op) → e.begun ≡ Some o → (b : Bool) → has_point o ≡ b → cond b (Some o) None ≡ Some (Op.End g) → e.begun ≡ Some (Op.End g)
+      by_point o begun true y same = let one : Some o ≡ Some (Op.End g) = same in begun ∙ one
       by_point o begun false y same = absurd (cc)
 
-      go : (o : Option Op) → e.begun ≡ o → (unacted m ≡ Some (op.End g)) ⊎ (e.begun ≡ Some (op.End g))
+      go : (o : Option Op) → e.begun ≡ o → (unacted m ≡ Some (Op.End g)) ⊎ (e.begun ≡ Some (Op.End g))
       go None none = inl (sym (ap (λ (y : Option Op). unacted (started k y m)) none) ∙ x)
       go (Some o) some = inr (by_point o some (has_point o) refl (sym (unacted_begun given known e es legal lt o some) ∙ x))
 
-    begins_end : (g : ℕ) → e.begun ≡ Some (op.End g) → unacted now ≡ Some (op.End g)
-    begins_end g x = unacted_begun given known e es legal lt (op.End g) x
+    begins_end : (g : ℕ) → e.begun ≡ Some (Op.End g) → unacted now ≡ Some (Op.End g)
+    begins_end g x = unacted_begun given known e es legal lt (Op.End g) x
 
     own_entries : by a (e ∷ es) ≡ e ∷ by a es
     own_entries = ap (λ (b : Bool). cond b (e ∷ by a es) (by a es)) (eq-eqb e.actor e.actor refl)
@@ -224,16 +209,16 @@ module _ (given : Given) (good : ShapesAreGood given.shapes) (limits : IsInLimit
     ended_here : (g : ℕ) → ended_in (by a (e ∷ es)) g ≡ (ends e.begun g || ended_in (by a es) g)
     ended_here g = ap (λ (ys : List (Entry Op)). ended_in ys g) own_entries
 
-    ended_there : (g : ℕ) → IsOf z a g → unacted now ≡ Some (op.End g) → ended_in (by a (e ∷ es)) g ≡ true
+    ended_there : (g : ℕ) → IsOf z a g → unacted now ≡ Some (Op.End g) → ended_in (by a (e ∷ es)) g ≡ true
     ended_there g its x = ended_here g ∙ elim (waits_or_begins g x) [
       | inl y ↦ or-true (ends e.begun g) (ended_in (by a es) g) (is.ended g its (inl y))
       | inr y ↦ or_left (ends e.begun g) (ended_in (by a es) g) (ap (λ (o : Option Op). ends o g) y ∙ eq-eqb g g refl)
     ]
 
-    end_acts : (g : ℕ) → now.task ≡ task.End g → unacted now ≡ Some (op.End g)
+    end_acts : (g : ℕ) → now.task ≡ Task.End g → unacted now ≡ Some (Op.End g)
     end_acts g x = ap (λ (q : Task). pointed (op_at q)) x
 
-    ended : (g : ℕ) → IsOf z a g → (unacted then ≡ Some (op.End g)) ⊎ (t.ever.ended g ≡ true) → ended_in (by a (e ∷ es)) g ≡ true
+    ended : (g : ℕ) → IsOf z a g → (unacted then ≡ Some (Op.End g)) ⊎ (t.ever.ended g ≡ true) → ended_in (by a (e ∷ es)) g ≡ true
     ended g its (inl x) = ended_there g its (was_waiting g x)
     ended g its (inr x) = elim (ended_was g x) [
       | inl y ↦ ended_here g ∙ or-true (ends e.begun g) (ended_in (by a es) g) (is.ended g its (inr y))
@@ -241,10 +226,10 @@ module _ (given : Given) (good : ShapesAreGood given.shapes) (limits : IsInLimit
     ]
 
     -- where none begins, what is still to act is as it was
-    still_waits : (g : ℕ) → unacted m ≡ Some (op.End g) → unacted now ≡ Some (op.End g)
-    still_waits g x = begins_with (λ p. unacted p ≡ Some (op.End g)) x (λ o y. absurd (let no : None ≡ Some (op.End g) = sym (fit.idle m (idle o y)) ∙ x in cc))
+    still_waits : (g : ℕ) → unacted m ≡ Some (Op.End g) → unacted now ≡ Some (Op.End g)
+    still_waits g x = begins_with (λ p. unacted p ≡ Some (Op.End g)) x (λ o y. absurd (let no : None ≡ Some (Op.End g) = sym (fit.idle m (idle o y)) ∙ x in cc))
 
-    ends_here : (g : ℕ) → IsOf z a g → ended_in (by a (e ∷ es)) g ≡ true → (unacted then ≡ Some (op.End g)) ⊎ (t.ever.ended g ≡ true)
+    ends_here : (g : ℕ) → IsOf z a g → ended_in (by a (e ∷ es)) g ≡ true → (unacted then ≡ Some (Op.End g)) ⊎ (t.ever.ended g ≡ true)
     ends_here g its x = elim (or_cases (ends e.begun g) (ended_in (by a es) g) (sym (ended_here g) ∙ x)) [
       | inl y ↦ acts_or_waits g (begins_end g (began_end e.begun g y))
       | inr y ↦ elim (is.ends g its y) [
@@ -260,11 +245,11 @@ module _ (given : Given) (good : ShapesAreGood given.shapes) (limits : IsInLimit
       left_begun : (o : Op) → e.begun ≡ Some o → (b : Bool) → has_left_at m.task ≡ b → is_last_task (cond b m (begins given.shapes m o)).task ≡ true → h.ever.ended g ≡ true
       left_begun o some true x last = is.left last g its
       left_begun o some false x last =
-          let leave : o ≡ op.Leave = last_begun given.shapes m o last in
+          let leave : o ≡ Op.Leave = last_begun given.shapes m o last in
           let m_may = may_parts z given.counts a (state_of k a (by a es)) (by a es) o (may_now o some) in
           let leaves = subst (λ (y : Op). may_leave z a (by a es) y ≡ true) leave m_may.leaves in
           let said = all_ended_at z a (by a es) given.layout.goroutines g its.0 (eq-eqb (z.seat_of g) a its.1) leaves in
-          elim (is.ends g its said) [ inl w ↦ absurd (let no : None ≡ Some (op.End g) = sym (fit.idle m (idle o some)) ∙ w in cc) | inr w ↦ w ]
+          elim (is.ends g its said) [ inl w ↦ absurd (let no : None ≡ Some (Op.End g) = sym (fit.idle m (idle o some)) ∙ w in cc) | inr w ↦ w ]
 
       go : (o : Option Op) → e.begun ≡ o → h.ever.ended g ≡ true
       go None none = is.left (sym (ap (λ (y : Option Op). is_last_task (started k y m).task) none) ∙ last) g its
@@ -309,11 +294,11 @@ module _ (given : Given) (good : ShapesAreGood given.shapes) (limits : IsInLimit
 
     -- The globals, and all together.
 
-    pub globals : (i : ℕ) → given.layout.globals ≤ i → t.words (cell.Global i) ≡ 0
+    pub globals : (i : ℕ) → given.layout.globals ≤ i → t.words (Cell.Global i) ≡ 0
     globals i le =
         let within : InRange given.layout (cell_of (asks given.layout now)) = subst (λ (q : Ask). InRange given.layout (cell_of q)) asked legal.1.within in
-        ap (λ (w : Words). w (cell.Global i)) land.words_are ∙ (known.one h.words (asks given.layout now) (cell.Global i)
-        ∙ (ap (λ (b : Bool). cond b (left_by (asks given.layout now) found) (h.words (cell.Global i))) (no_global given.layout i le (cell_of (asks given.layout now)) within) ∙ of.globals i le))
+        ap (λ (w : Words). w (Cell.Global i)) land.words_are ∙ (known.one h.words (asks given.layout now) (Cell.Global i)
+        ∙ (ap (λ (b : Bool). cond b (left_by (asks given.layout now) found) (h.words (Cell.Global i))) (no_global given.layout i le (cell_of (asks given.layout now)) within) ∙ of.globals i le))
 
     as_it_should : IsAsItShould (setup_for given) (e ∷ es) t a then
     as_it_should = record {

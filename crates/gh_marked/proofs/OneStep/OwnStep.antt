@@ -1,17 +1,9 @@
 -- One entry more of a processor: what it is with its operation begun, and that its step is a move over the heap that its rights allow, or one of the sweep that it runs.
 use Rattle.std.proofs.Common.{◌≡◌, ℕ, ◌<◌, inr, Bool, true, false, sym, ap, subst, ◌∙◌, List, ◌∷◌, Some, None, arith}
+use Rattle.gh_marked.proofs.Vocabulary.{Actor, actors, Arena, arena, Ask, asks, asks_by, by, cell_of, DoesPoints, Entry, Given, Good, HasState, Heap, is_busy_at, IsAsItShould, IsHeapOf, IsInLimits, IsSound, Kind, Known, Legal, made_by, may_of, may_parts, Op, Processor, processor_at, processor_kind, ProcessorFacts, run_started, runs_are, setup_for, ShapesAreGood, started, state_by, state_of, Steps, sweep_in, those, view, Words, words}
 use Rattle.gh_mutator_heap.specs.Facts.{MayBegin}
-use Rattle.gh_lists.specs.Handshake.{asks as asks_by}
-use Rattle.gh_mutator.specs.Sweeping.{sweep_in}
-use Rattle.gh_marked.proofs.Vocabulary.{Actor, actors, Arena, arena, Ask, asks, by, cell_of, DoesPoints, Entry, ProcessorFacts, Good, HasState, Heap, is_busy_at, IsAsItShould, IsHeapOf, IsInLimits, IsSound, Kind, Legal, made_by, may_of, Op, Processor, processor_at, processor_kind, ShapesAreGood, started, state_of, Steps, those, view, Words, words}
-use Rattle.gh_lists.specs.Beginning.{may_parts}
 use Rattle.gh_marked.specs.MayBegin.{may-begin}
-use Rattle.gh_marked.specs.Known.{Known}
-use Rattle.gh_marked.specs.OwnEntries.{state_by}
 use Rattle.gh_marked.proofs.OneStep.Ranging.{begins_so, busy_now}
-use Rattle.gh_lists.specs.Resting.{runs_are}
-use Rattle.gh_lists.specs.Seats.{run_started}
-use Rattle.gh_lists.specs.Lists.{Given, setup_for}
 
 module _ (given : Given) (good : ShapesAreGood given.shapes) (limits : IsInLimits given.layout) (known : Known) where
   abbrev may : ℕ → List (Entry Op) → Op → Bool

@@ -1,27 +1,10 @@
 -- What one step leaves of the word of a page, whoever makes it. A move of a processor leaves it, frees the page, or gives the span another owner; or it lays a page that was free. A sweep gives the span another number. So the page stays one of a span for objects of one of the types, as long as what is laid is.
 use Rattle.std.proofs.Common.{◌≡◌, inl, inr, ℕ, ◌+◌, ◌^◌, ◌<◌, Bool, true, false, cond, eqb, refl, sym, ap, subst, ◌∙◌, arith, List, None}
 use Rattle.std.proofs.lemmas.Bool.{eqb-true}
-use Rattle.std.proofs.lemmas.Bool.Decides.{eqb_tells}
-use Rattle.gh_base.specs.declared.cell.Ask.{Ask}
-use Rattle.gh_base.specs.declared.cell.Ask.TheVariants.{Add, And, Load, Or, Store, Swap}
-use Rattle.gh_base.specs.declared.cell.Cell.{Cell}
-use Rattle.gh_base.specs.declared.cell.Cell.TheVariants as cell
-use Rattle.gh_base.specs.declared.pack.PageWord.TheVariants.{Free, Head}
-use Rattle.gh_base.specs.declared.pack.SpanHead.{SpanHead}
-use Rattle.gh_base.specs.Cells.{same_cell}
-use Rattle.gh_base.specs.Footprints.{Footprint, FootprintsHold, Writes}
+use Rattle.gh_marked.proofs.Vocabulary.{Add, And, Arena, Ask, Cell, cell_of, ChangesOneCell, Check, Close, Coordinating, CoordStage, Count, effect, eqb_tells, FitsHead, Footprint, FootprintsHold, Free, Head, head_word, Heap, IsForTypes, IsHeadFor, IsPageFor, Layout, left, Load, Open, Or, owned_by, PackedWordsAreReadBack, page_of, same_cell, Shape, shape_at, SpanHead, Stop, StopAgain, Store, Swap, Sweep, SweepAllStage, SweepStage, Tell, view, Watch, Words, WorkersAreRoutines, Working, Writes}
 use Rattle.gh_base.specs.Footprints as row
-use Rattle.gh_base.specs.Packing.{FitsHead, PackedWordsAreReadBack}
-use Rattle.gh_base.specs.Shapes.{shape_at}
-use Rattle.gh_base.specs.Steps.{cell_of, ChangesOneCell, effect, left}
 use Rattle.gh_heap.specs.Moves as heap
-use Rattle.gh_heap.specs.Spans.{owned_by}
-use Rattle.gh_sweep.specs.declared.sweep.SweepStage.{SweepStage}
-use Rattle.gh_sweep.specs.declared.sweep.SweepStage.TheVariants as sweep_stage
 use Rattle.gh_sweep.specs.Listing as sweep
-use Rattle.gh_coord.specs.declared.coord.CoordStage.TheVariants.{Check, Close, Count, Open, Stop, StopAgain, Sweep, Tell, Watch}
-use Rattle.gh_coord.specs.declared.sweep_all.SweepAllStage.{SweepAllStage}
-use Rattle.gh_coord.specs.declared.sweep_all.SweepAllStage.TheVariants as all_stage
 use Rattle.gh_coord.specs.Closing as close
 use Rattle.gh_coord.specs.Counting as count
 use Rattle.gh_coord.specs.Listing.{asks_at, sweep_at}
@@ -32,10 +15,7 @@ use Rattle.gh_coord.specs.SweepingAll as all
 use Rattle.gh_coord.specs.Telling as tell
 use Rattle.gh_coord.specs.Watching as watch
 use Rattle.gh_worker.specs.Listing as worker
-use Rattle.gh_worker.specs.Listing.{sweep_in, Working}
-use Rattle.gh_worker.specs.Routine.{WorkersAreRoutines}
-use Rattle.gh_marked.specs.HoldVocabulary.{Arena, Coordinating, CoordStage, head_word, Heap, Layout, page_of, Shape, view, Words}
-use Rattle.gh_marked.specs.Spans.{IsForTypes, IsHeadFor, IsPageFor}
+use Rattle.gh_worker.specs.Listing.{sweep_in}
 
 -- the two are heads of one span class, with as many pages
 record AreAlike (h g : SpanHead) : Type 0 where
@@ -57,28 +37,28 @@ module _ (read : PackedWordsAreReadBack) (shapes : List Shape) where
   none : ForPage 0
   none = inl refl
 
-  module _ (w : Words) (q : ℕ) (was : ForPage (w (cell.Page q))) where
+  module _ (w : Words) (q : ℕ) (was : ForPage (w (Cell.Page q))) where
     -- the word of page p is written
-    onto : (p value : ℕ) → (p ≡ q → ForPage value) → ForPage (cond (eqb p q) value (w (cell.Page q)))
+    onto : (p value : ℕ) → (p ≡ q → ForPage value) → ForPage (cond (eqb p q) value (w (Cell.Page q)))
     onto p value is = go (eqb p q) refl where
-      go : (b : Bool) → eqb p q ≡ b → ForPage (cond b value (w (cell.Page q)))
+      go : (b : Bool) → eqb p q ≡ b → ForPage (cond b value (w (Cell.Page q)))
       go true e = is (eqb-true _ _ e)
       go false e = was
 
     -- its span passes to a head like its own
-    onto_head : (p : ℕ) (h g : SpanHead) → FitsHead g → AreAlike h g → page_of (w (cell.Page p)) ≡ Head h → ForPage (cond (eqb p q) (head_word g) (w (cell.Page q)))
-    onto_head p h g fits alike is = onto p (head_word g) (λ here. passes (w (cell.Page q)) h g fits alike (sym (ap (λ (n : ℕ). page_of (w (cell.Page n))) here) ∙ is) was)
+    onto_head : (p : ℕ) (h g : SpanHead) → FitsHead g → AreAlike h g → page_of (w (Cell.Page p)) ≡ Head h → ForPage (cond (eqb p q) (head_word g) (w (Cell.Page q)))
+    onto_head p h g fits alike is = onto p (head_word g) (λ here. passes (w (Cell.Page q)) h g fits alike (sym (ap (λ (n : ℕ). page_of (w (Cell.Page n))) here) ∙ is) was)
 
     -- A step on another row.
     module _ (one : ChangesOneCell) where
-      not_page : (c : Cell) → heap.IsAside c → same_cell c (cell.Page q) ≡ false
-      not_page (cell.Page i) is = absurd is
+      not_page : (c : Cell) → heap.IsAside c → same_cell c (Cell.Page q) ≡ false
+      not_page (Cell.Page i) is = absurd is
       not_page _ is = refl
 
-      leaves : (ask : Ask) → same_cell (cell_of ask) (cell.Page q) ≡ false → ForPage (effect w ask (cell.Page q))
-      leaves ask apart = subst ForPage (sym (one w ask (cell.Page q) ∙ ap (λ (b : Bool). cond b (left ask (w (cell_of ask))) (w (cell.Page q))) apart)) was
+      leaves : (ask : Ask) → same_cell (cell_of ask) (Cell.Page q) ≡ false → ForPage (effect w ask (Cell.Page q))
+      leaves ask apart = subst ForPage (sym (one w ask (Cell.Page q) ∙ ap (λ (b : Bool). cond b (left ask (w (cell_of ask))) (w (Cell.Page q))) apart)) was
 
-      quiet : (ask : Ask) → heap.IsQuiet ask → ForPage (effect w ask (cell.Page q))
+      quiet : (ask : Ask) → heap.IsQuiet ask → ForPage (effect w ask (Cell.Page q))
       quiet (Load c) is = was
       quiet (Store c v) is = leaves (Store c v) (not_page c is)
       quiet (Or c v) is = leaves (Or c v) (not_page c is)
@@ -87,14 +67,14 @@ module _ (read : PackedWordsAreReadBack) (shapes : List Shape) where
       quiet (Swap c v u) is = leaves (Swap c v u) (not_page c is)
 
     -- A step of a worker that runs no sweep.
-    pub worked : (k : WorkersAreRoutines) (l : Layout) (m : Working) → sweep_in m ≡ None → ForPage (effect w (worker.asks l m) (cell.Page q))
-    worked k l m none = subst ForPage (sym ((k.marks_alone l m none).leaves w (cell.Page q) refl)) was
+    pub worked : (k : WorkersAreRoutines) (l : Layout) (m : Working) → sweep_in m ≡ None → ForPage (effect w (worker.asks l m) (Cell.Page q))
+    worked k l m none = subst ForPage (sym ((k.marks_alone l m none).leaves w (Cell.Page q) refl)) was
 
     -- A step of the coordinator.
 
-    swap : (p old : ℕ) (h g : SpanHead) → FitsHead g → AreAlike h g → page_of old ≡ Head h → ForPage (effect w (Swap (cell.Page p) old (head_word g)) (cell.Page q))
-    swap p old h g fits alike is = go (eqb (w (cell.Page p)) old) refl where
-      go : (b : Bool) → eqb (w (cell.Page p)) old ≡ b → ForPage (cond b (λ (c : Cell). cond (same_cell (cell.Page p) c) (head_word g) (w c)) w (cell.Page q))
+    swap : (p old : ℕ) (h g : SpanHead) → FitsHead g → AreAlike h g → page_of old ≡ Head h → ForPage (effect w (Swap (Cell.Page p) old (head_word g)) (Cell.Page q))
+    swap p old h g fits alike is = go (eqb (w (Cell.Page p)) old) refl where
+      go : (b : Bool) → eqb (w (Cell.Page p)) old ≡ b → ForPage (cond b (λ (c : Cell). cond (same_cell (Cell.Page p) c) (head_word g) (w c)) w (Cell.Page q))
       go true e = onto_head p h g fits alike (ap page_of (eqb-true _ _ e) ∙ is)
       go false e = was
 
@@ -102,7 +82,7 @@ module _ (read : PackedWordsAreReadBack) (shapes : List Shape) where
     pub record IsSwept (m : sweep.Sweeping) : Type 0 where
       pub fits : FitsHead m.head
       pub few : m.head.number + 2 < 2 ^ 34
-      pub begun : m.stage ≡ sweep_stage.Finish → w (cell.Page m.page) ≡ head_word (sweep.in_sweep m.head)
+      pub begun : m.stage ≡ SweepStage.Finish → w (Cell.Page m.page) ≡ head_word (sweep.in_sweep m.head)
 
     fits_in_sweep : (m : sweep.Sweeping) → IsSwept m → FitsHead (sweep.in_sweep m.head)
     fits_in_sweep m s = let few = s.few in record { class = s.fits.class; some = s.fits.some; pages = s.fits.pages; owner = s.fits.owner; number = omega (arith, few) }
@@ -110,23 +90,23 @@ module _ (read : PackedWordsAreReadBack) (shapes : List Shape) where
     fits_once_swept : (m : sweep.Sweeping) → IsSwept m → FitsHead (sweep.once_swept m.head)
     fits_once_swept m s = record { class = s.fits.class; some = s.fits.some; pages = s.fits.pages; owner = omega arith; number = s.few }
 
-    pub sweeps : (l : Layout) (m : sweep.Sweeping) (p : SweepStage) → m.stage ≡ p → IsSwept m → ForPage (effect w (sweep.asks_at l m p) (cell.Page q))
-    sweeps l m sweep_stage.Begin at s = swap m.page (head_word m.head) m.head (sweep.in_sweep m.head) (fits_in_sweep m s) (record { class = refl; noscan = refl; pages = refl }) (read.page (Head m.head) s.fits)
-    sweeps l m sweep_stage.Finish at s =
+    pub sweeps : (l : Layout) (m : sweep.Sweeping) (p : SweepStage) → m.stage ≡ p → IsSwept m → ForPage (effect w (sweep.asks_at l m p) (Cell.Page q))
+    sweeps l m SweepStage.Begin at s = swap m.page (head_word m.head) m.head (sweep.in_sweep m.head) (fits_in_sweep m s) (record { class = refl; noscan = refl; pages = refl }) (read.page (Head m.head) s.fits)
+    sweeps l m SweepStage.Finish at s =
         onto_head m.page (sweep.in_sweep m.head) (sweep.once_swept m.head) (fits_once_swept m s) (record { class = refl; noscan = refl; pages = refl }) (ap page_of (s.begun at) ∙ read.page (Head (sweep.in_sweep m.head)) (fits_in_sweep m s))
     sweeps l m _ at s = was
 
     -- between two sweeps of spans it loads
-    rests : (l : Layout) (p : SweepAllStage) → all.sweep_at p ≡ None → ForPage (effect w (all.asks_at l p) (cell.Page q))
-    rests l (all_stage.Sweep page m) none = absurd (cc)
+    rests : (l : Layout) (p : SweepAllStage) → all.sweep_at p ≡ None → ForPage (effect w (all.asks_at l p) (Cell.Page q))
+    rests l (SweepAllStage.Sweep page m) none = absurd (cc)
     rests l _ none = was
 
     -- and of the other parts none writes a page
     module _ (k : FootprintsHold) (l : Layout) (c : Coordinating) (is : PartsAreRoutines l) where
-      spares : (f : Footprint) (step : Ask) → Writes f step → f row.Page ≡ false → ForPage (effect w step (cell.Page q))
-      spares f step writes none = subst ForPage (sym (k.leaves f step w (cell.Page q) writes none)) was
+      spares : (f : Footprint) (step : Ask) → Writes f step → f row.Page ≡ false → ForPage (effect w step (Cell.Page q))
+      spares f step writes none = subst ForPage (sym (k.leaves f step w (Cell.Page q) writes none)) was
 
-      pub led : (p : CoordStage) → sweep_at p ≡ None → ForPage (effect w (asks_at l c p) (cell.Page q))
+      pub led : (p : CoordStage) → sweep_at p ≡ None → ForPage (effect w (asks_at l c p) (Cell.Page q))
       led (Stop st) s = spares stop.writes _ (is.stop.writes st) refl
       led (Open o) s = spares open_.writes _ (is.opens.writes o) refl
       led (Watch v) s = spares watch.writes _ (is.watch.writes v) refl
@@ -139,24 +119,24 @@ module _ (read : PackedWordsAreReadBack) (shapes : List Shape) where
       led _ s = was
 
   -- A move of a processor.
-  module _ (one : ChangesOneCell) (z : Arena) (a : ℕ) (s : Heap) (few : a + 1 < 2 ^ 8) (heads : (p : ℕ) (h : SpanHead) → page_of (s.words (cell.Page p)) ≡ Head h → FitsHead h) (q : ℕ) (was : ForPage (s.words (cell.Page q))) where
+  module _ (one : ChangesOneCell) (z : Arena) (a : ℕ) (s : Heap) (few : a + 1 < 2 ^ 8) (heads : (p : ℕ) (h : SpanHead) → page_of (s.words (Cell.Page p)) ≡ Head h → FitsHead h) (q : ℕ) (was : ForPage (s.words (Cell.Page q))) where
     abbrev Then : heap.Move → Type 0
-    Then m = ForPage ((heap.moved z a s m).words (cell.Page q))
+    Then m = ForPage ((heap.moved z a s m).words (Cell.Page q))
 
     fits_owned : (h : SpanHead) (owner : ℕ) → FitsHead h → owner < 2 ^ 8 → FitsHead (owned_by owner h)
     fits_owned h owner fits lt = record { class = fits.class; some = fits.some; pages = fits.pages; owner = lt; number = fits.number }
 
-    owned : (p owner : ℕ) (h : SpanHead) → owner < 2 ^ 8 → page_of (s.words (cell.Page p)) ≡ Head h → ForPage (cond (eqb p q) (head_word (owned_by owner h)) (s.words (cell.Page q)))
+    owned : (p owner : ℕ) (h : SpanHead) → owner < 2 ^ 8 → page_of (s.words (Cell.Page p)) ≡ Head h → ForPage (cond (eqb p q) (head_word (owned_by owner h)) (s.words (Cell.Page q)))
     owned p owner h lt is = onto_head s.words q was p h (owned_by owner h) (fits_owned h owner (heads p h is) lt) (record { class = refl; noscan = refl; pages = refl }) is
 
     -- a page is laid only where it was free, with the lock
-    laid : (p value : ℕ) → page_of (s.words (cell.Page p)) ≡ Free → (page_of (s.words (cell.Page q)) ≡ Free → ForPage (cond (eqb p q) value (s.words (cell.Page q)))) → ForPage (cond (eqb p q) value (s.words (cell.Page q)))
+    laid : (p value : ℕ) → page_of (s.words (Cell.Page p)) ≡ Free → (page_of (s.words (Cell.Page q)) ≡ Free → ForPage (cond (eqb p q) value (s.words (Cell.Page q)))) → ForPage (cond (eqb p q) value (s.words (Cell.Page q)))
     laid p value free fresh = elim (eqb_tells p q) [
-      | inl is ↦ fresh (sym (ap (λ (n : ℕ). page_of (s.words (cell.Page n))) is.1) ∙ free)
-      | inr other ↦ subst (λ (b : Bool). ForPage (cond b value (s.words (cell.Page q)))) (sym other.0) was
+      | inl is ↦ fresh (sym (ap (λ (n : ℕ). page_of (s.words (Cell.Page n))) is.1) ∙ free)
+      | inr other ↦ subst (λ (b : Bool). ForPage (cond b value (s.words (Cell.Page q)))) (sym other.0) was
     ]
 
-    pub moved : (m : heap.Move) → heap.May z a (view s) m → (s.locked a ≡ true → page_of (s.words (cell.Page q)) ≡ Free → Then m) → Then m
+    pub moved : (m : heap.Move) → heap.May z a (view s) m → (s.locked a ≡ true → page_of (s.words (Cell.Page q)) ≡ Free → Then m) → Then m
     moved (heap.Quiet step) may fresh = quiet s.words q was one step may
     moved (heap.Takes step g d value) may fresh = quiet s.words q was one step may.0
     moved (heap.Ends step g) may fresh = quiet s.words q was one step may.0

@@ -1,33 +1,32 @@
 -- What a processor has placed and not counted, over a step of it: the step that makes an object adds the bytes of its slot, the one that counts them takes them off, and no other changes that or makes anything.
-use Rattle.std.proofs.Common.{◌≡◌, ℕ, ◌+◌, ◌*◌, ◌%◌, ◌^◌, nat_le, Bool, true, false, cond, refl, ◌⊎◌, inl, inr, List, Option, Some, arith}
-use Rattle.std.specs.Prelude.{is_none}
-use Rattle.gh_base.specs.declared.cell.Cell.TheVariants as cell
-use Rattle.gh_base.specs.declared.operation.Op.TheVariants as op
-use Rattle.gh_alloc.specs.declared.place.PlaceStage.TheVariants as making
+use Rattle.std.proofs.Common.{◌≡◌, ℕ, ◌+◌, ◌*◌, ◌%◌, ◌^◌, nat_le, Bool, true, false, cond, refl, ◌⊎◌, inl, inr, List, Option, Some, arith, is_none, is_some, nat_lt}
+use Rattle.gh_marked.proofs.Vocabulary.{acted, acting, acts_at, Add, after_assist, after_gc, after_leave, after_poll, asks_at, Assist, assisting, assists, cache_span, Cell, CountsAlone, CountsObject, Ever, follows, Heap, is_busy_at, Layout, Name, NewStage, Op, Place, PlaceStage, Processor, register_of, Search, Shape, sweep_at, Sweeping, takes_at, Task, uncounted, Wait, Want, Wanted}
 use Rattle.gh_alloc.specs.Place as place
 use Rattle.gh_alloc.specs.Search as search
 use Rattle.gh_assist.specs.Listing as assist
 use Rattle.gh_bitmap.specs.SetPointers as bits
-use Rattle.gh_mutator.specs.declared.task.Task.TheVariants as task
-use Rattle.gh_mutator_heap.specs.Facts.{CountsAlone}
 use Rattle.gh_mutator.specs.Global as global
 use Rattle.gh_poll.specs.Leave as leave
-use Rattle.gh_mutator.specs.Listing.{asks_at}
 use Rattle.gh_mutator.specs.Load as load
 use Rattle.gh_poll.specs.Local.{marking_at}
 use Rattle.gh_mutator.specs.New as new
 use Rattle.gh_poll.specs.Poll as poll
 use Rattle.gh_mutator.specs.Register as register
 use Rattle.gh_mutator.specs.Store as store
-use Rattle.gh_mutator.specs.Sweeping.{sweep_at}
 use Rattle.gh_poll.specs.Wait as wait
-use Rattle.gh_sweep.specs.Listing.{Sweeping}
-use Rattle.gh_marked.proofs.Vocabulary.{acted, acting, acts_at, Add, after_assist, after_gc, after_leave, after_poll, Assist, Assisting, assisting, assists, cache_span, CountsObject, Ever, follows, Found, Global, GlobalStage, Heap, is_busy_at, is_some, Layout, Name, nat_lt, NewStage, Op, Place, PlaceStage, Placing, Processor, Register, register_of, Search, Shape, Source, takes_at, Task, Then, uncounted, Wait, Want, Wanted}
+use Rattle.gh_assist.specs.Listing.{Assisting}
+use Rattle.gh_alloc.specs.declared.sought.Found.{Found}
+use Rattle.gh_mutator.specs.declared.global.Global.{Global}
+use Rattle.gh_mutator.specs.declared.global.GlobalStage.{GlobalStage}
+use Rattle.gh_alloc.specs.Place.{Placing}
+use Rattle.gh_mutator.specs.declared.register.Register.{Register}
+use Rattle.gh_mutator.specs.declared.register.Source.{Source}
+use Rattle.gh_mutator.specs.declared.step.Then.{Then}
 
 -- No object is made but by a `new`.
 
 abbrev IsNoNew : Op → Type 0
-IsNoNew (op.New g d t) = ⊥
+IsNoNew (Op.New g d t) = ⊥
 IsNoNew _ = Unit {0}
 
 module _ (shapes : List Shape) where
@@ -54,7 +53,7 @@ followed goes plain x = grind arith
 
 module _ (l : Layout) (shapes : List Shape) (m : Processor) (found : ℕ) where
   pub record Counts (t : Task) : Type 0 where
-    pub asks_is : asks_at l m t ≡ Add cell.Heap (uncounted t)
+    pub asks_is : asks_at l m t ≡ Add Cell.Heap (uncounted t)
     pub then : uncounted (takes_at l shapes m t found).task ≡ 0
     pub nothing : (e : Ever) (g : ℕ) → (acted shapes e (acts_at l m t found)).made g ≡ e.made g
     -- words alone change
@@ -63,8 +62,8 @@ module _ (l : Layout) (shapes : List Shape) (m : Processor) (found : ℕ) where
   pub record Makes (t : Task) : Type 0 where
     pub wanted : Wanted
     pub placing : Placing
-    pub is : t ≡ task.New (record { wanted = wanted; stage = Place placing })
-    pub stage : placing.stage ≡ making.Alloc
+    pub is : t ≡ Task.New (record { wanted = wanted; stage = Place placing })
+    pub stage : placing.stage ≡ PlaceStage.Alloc
     pub silent : CountsObject (asks_at l m t) t → ⊥
 
   pub record Keeps (t : Task) : Type 0 where
@@ -84,36 +83,36 @@ module _ (l : Layout) (shapes : List Shape) (m : Processor) (found : ℕ) where
 
   -- the making of an object
   abbrev placing_at : Wanted → Placing → Task
-  placing_at w p = task.New (record { wanted = w; stage = Place p })
+  placing_at w p = Task.New (record { wanted = w; stage = Place p })
 
   -- behind it an assist may run
-  then_plain : (w : Wanted) (n : Name) (marking : Bool) → IsPlain (cond marking (assists w n (assisting m.poll w)) task.Idle)
+  then_plain : (w : Wanted) (n : Name) (marking : Bool) → IsPlain (cond marking (assists w n (assisting m.poll w)) Task.Idle)
   then_plain w n marking = grind arith
 
   assisted : (w : Wanted) (n : Name) (x : Assisting) (out : Option (Unit {0})) → IsPlain (after_assist m w n x out).task
   assisted w n x out = grind arith
 
   placed : (w : Wanted) (p : Placing) (s : PlaceStage) → StepOf (placing_at w (place.at_stage p s))
-  placed w p (making.Clear k) = inr (inr (record { same = by (nat_lt (k + 1) p.slot); silent = λ y. absurd (let x = y.0 in cc); nothing = λ e g. refl })) where
-    by : (b : Bool) → uncounted (new.made_task m.poll w (place.at_stage p (cond b (making.Clear (k + 1)) making.Birth)) (place.given_at (cond b (making.Clear (k + 1)) making.Birth))) ≡ 0
+  placed w p (PlaceStage.Clear k) = inr (inr (record { same = by (nat_lt (k + 1) p.slot); silent = λ y. absurd (let x = y.0 in cc); nothing = λ e g. refl })) where
+    by : (b : Bool) → uncounted (new.made_task m.poll w (place.at_stage p (cond b (PlaceStage.Clear (k + 1)) PlaceStage.Birth)) (place.given_at (cond b (PlaceStage.Clear (k + 1)) PlaceStage.Birth))) ≡ 0
     by true = refl
     by false = refl
-  placed w p making.Birth = inr (inr (record { same = refl; silent = λ y. absurd (let x = y.0 in cc); nothing = λ e g. refl }))
-  placed w p (making.Bits q) = inr (inr (record { same = by (is_none (bits.given (bits.goes q found))); silent = λ y. absurd (let x = y.0 in cc); nothing = λ e g. refl })) where
-    by : (b : Bool) → uncounted (new.made_task m.poll w (place.at_stage p (cond b (making.Bits (bits.goes q found)) (place.filled p.marking))) (place.given_at (cond b (making.Bits (bits.goes q found)) (place.filled p.marking)))) ≡ 0
+  placed w p PlaceStage.Birth = inr (inr (record { same = refl; silent = λ y. absurd (let x = y.0 in cc); nothing = λ e g. refl }))
+  placed w p (PlaceStage.Bits q) = inr (inr (record { same = by (is_none (bits.given (bits.goes q found))); silent = λ y. absurd (let x = y.0 in cc); nothing = λ e g. refl })) where
+    by : (b : Bool) → uncounted (new.made_task m.poll w (place.at_stage p (cond b (PlaceStage.Bits (bits.goes q found)) (place.filled p.marking))) (place.given_at (cond b (PlaceStage.Bits (bits.goes q found)) (place.filled p.marking)))) ≡ 0
     by b = grind arith
-  placed w p making.Mark = inr (inr (record { same = refl; silent = λ y. absurd (let x = y.0 in cc); nothing = λ e g. refl }))
-  placed w p making.Alloc = inr (inl (record { wanted = w; placing = place.at_stage p making.Alloc; is = refl; stage = refl; silent = λ y. absurd (let x = y.0 in cc) }))
-  placed w p (making.Give g) = inr (inr (record { same = refl; silent = λ y. absurd (let x = y.0 in cc); nothing = λ e g. refl }))
-  placed w p making.Count = inl (record { asks_is = refl; then = by p.marking; nothing = λ e g. refl; alone = λ u v x. x }) where
-    by : (marking : Bool) → uncounted (new.made_task m.poll w (place.at_stage p (cond marking (making.Ended false) (making.LoadTrigger ((found + 8 * p.slot) % 2 ^ 64)))) (place.given_at (cond marking (making.Ended false) (making.LoadTrigger ((found + 8 * p.slot) % 2 ^ 64))))) ≡ 0
+  placed w p PlaceStage.Mark = inr (inr (record { same = refl; silent = λ y. absurd (let x = y.0 in cc); nothing = λ e g. refl }))
+  placed w p PlaceStage.Alloc = inr (inl (record { wanted = w; placing = place.at_stage p PlaceStage.Alloc; is = refl; stage = refl; silent = λ y. absurd (let x = y.0 in cc) }))
+  placed w p (PlaceStage.Give g) = inr (inr (record { same = refl; silent = λ y. absurd (let x = y.0 in cc); nothing = λ e g. refl }))
+  placed w p PlaceStage.Count = inl (record { asks_is = refl; then = by p.marking; nothing = λ e g. refl; alone = λ u v x. x }) where
+    by : (marking : Bool) → uncounted (new.made_task m.poll w (place.at_stage p (cond marking (PlaceStage.Ended false) (PlaceStage.LoadTrigger ((found + 8 * p.slot) % 2 ^ 64)))) (place.given_at (cond marking (PlaceStage.Ended false) (PlaceStage.LoadTrigger ((found + 8 * p.slot) % 2 ^ 64))))) ≡ 0
     by true = then_plain w p.name (marking_at m.poll)
     by false = refl
-  placed w p (making.LoadTrigger bytes) = inr (inr (record { same = by (nat_le found bytes); silent = λ y. absurd (let x = y.0 in cc); nothing = λ e g. refl })) where
-    by : (reached : Bool) → uncounted (new.made_task m.poll w (place.at_stage p (making.Ended reached)) (Some reached)) ≡ 0
+  placed w p (PlaceStage.LoadTrigger bytes) = inr (inr (record { same = by (nat_le found bytes); silent = λ y. absurd (let x = y.0 in cc); nothing = λ e g. refl })) where
+    by : (reached : Bool) → uncounted (new.made_task m.poll w (place.at_stage p (PlaceStage.Ended reached)) (Some reached)) ≡ 0
     by true = refl
     by false = then_plain w p.name (marking_at m.poll)
-  placed w p (making.Ended wants) = inr (inr (record { same = then_plain w p.name (marking_at m.poll); silent = λ y. absurd (let x = y.0 in cc); nothing = λ e g. refl }))
+  placed w p (PlaceStage.Ended wants) = inr (inr (record { same = then_plain w p.name (marking_at m.poll); silent = λ y. absurd (let x = y.0 in cc); nothing = λ e g. refl }))
 
   ended_gc : (g : ℕ) (x : wait.Waiting) (out : Option (Unit {0})) → uncounted (after_gc m g x out).task ≡ 0
   ended_gc g x out = grind arith
@@ -125,23 +124,23 @@ module _ (l : Layout) (shapes : List Shape) (m : Processor) (found : ℕ) where
   ended_leave x out = grind arith
 
   pub kind : (t : Task) → is_busy_at t ≡ true → StepOf t
-  kind task.Idle busy = absurd (cc)
-  kind task.Left busy = absurd (cc)
-  kind (task.Load x) busy = inr (inr (record { same = followed task.Load (λ s. refl) (load.step l x found).then; silent = λ y. y; nothing = acting_made shapes (load.step l x found).acts (load.op_of x) tt }))
-  kind (task.Store x) busy = inr (inr (record { same = followed task.Store (λ s. refl) (store.step l m.poll.local (register_of m x.g x.v) x found).then; silent = λ y. y; nothing = acting_made shapes (store.step l m.poll.local (register_of m x.g x.v) x found).acts (store.op_of x) tt }))
-  kind (task.Global x) busy = inr (inr (record { same = followed task.Global (λ s. refl) (global.step l (register_of m x.g x.r) x found).then; silent = λ y. y; nothing = acting_made shapes (global.step l (register_of m x.g x.r) x found).acts (global.op_of x) (no_new_global x x.stage) }))
-  kind (task.Register x) busy = inr (inr (record { same = refl; silent = λ y. y; nothing = acting_made shapes true (register.op_of x) (no_new_register x x.source) }))
-  kind (task.New x) busy = new_kind x.wanted x.stage where
-    new_kind : (w : Wanted) (s : NewStage) → StepOf (task.New (record { wanted = w; stage = s }))
+  kind Task.Idle busy = absurd (cc)
+  kind Task.Left busy = absurd (cc)
+  kind (Task.Load x) busy = inr (inr (record { same = followed Task.Load (λ s. refl) (load.step l x found).then; silent = λ y. y; nothing = acting_made shapes (load.step l x found).acts (load.op_of x) tt }))
+  kind (Task.Store x) busy = inr (inr (record { same = followed Task.Store (λ s. refl) (store.step l m.poll.local (register_of m x.g x.v) x found).then; silent = λ y. y; nothing = acting_made shapes (store.step l m.poll.local (register_of m x.g x.v) x found).acts (store.op_of x) tt }))
+  kind (Task.Global x) busy = inr (inr (record { same = followed Task.Global (λ s. refl) (global.step l (register_of m x.g x.r) x found).then; silent = λ y. y; nothing = acting_made shapes (global.step l (register_of m x.g x.r) x found).acts (global.op_of x) (no_new_global x x.stage) }))
+  kind (Task.Register x) busy = inr (inr (record { same = refl; silent = λ y. y; nothing = acting_made shapes true (register.op_of x) (no_new_register x x.source) }))
+  kind (Task.New x) busy = new_kind x.wanted x.stage where
+    new_kind : (w : Wanted) (s : NewStage) → StepOf (Task.New (record { wanted = w; stage = s }))
     new_kind w (Search waited q) = inr (inr (record { same = searched w waited (search.goes l q found) (cache_span m w.sought (search.goes l q found).find.cached) (search.gives l q found); silent = λ y. y; nothing = refused_made shapes (new.refuses_behind_wait waited (search.gives l q found)) w }))
     new_kind w (Wait y) = inr (inr (record { same = waited_for w (wait.goes l (wait.waiting y m.poll) found) (wait.gives l (wait.waiting y m.poll) found); silent = λ y. y; nothing = λ e g. refl }))
     new_kind w (Place p) = placed w p p.stage
     new_kind w (Want n) = inr (inr (record { same = refl; silent = λ y. y; nothing = λ e g. refl }))
     new_kind w (Assist n x) = inr (inr (record { same = assisted w n (assist.goes l x found) (assist.gives l x found); silent = λ y. y; nothing = λ e g. refl }))
-  kind (task.Gc g x) busy = inr (inr (record { same = ended_gc g (wait.goes l (wait.waiting x m.poll) found) (wait.gives l (wait.waiting x m.poll) found); silent = λ y. y; nothing = acting_made shapes (is_some (wait.gives l (wait.waiting x m.poll) found)) (op.Gc g) tt }))
-  kind task.Poll busy = inr (inr (record { same = ended_poll (poll.goes l m.poll found) (poll.gives l m.poll found); silent = λ y. y; nothing = acting_made shapes (is_some (poll.gives l m.poll found)) op.Poll tt }))
-  kind (task.End g) busy = inr (inr (record { same = refl; silent = λ y. y; nothing = λ e h. refl }))
-  kind (task.Leave x) busy = inr (inr (record { same = ended_leave (leave.goes x found) (leave.gives x found); silent = λ y. y; nothing = acting_made shapes (is_some (leave.gives x found)) op.Leave tt }))
+  kind (Task.Gc g x) busy = inr (inr (record { same = ended_gc g (wait.goes l (wait.waiting x m.poll) found) (wait.gives l (wait.waiting x m.poll) found); silent = λ y. y; nothing = acting_made shapes (is_some (wait.gives l (wait.waiting x m.poll) found)) (Op.Gc g) tt }))
+  kind Task.Poll busy = inr (inr (record { same = ended_poll (poll.goes l m.poll found) (poll.gives l m.poll found); silent = λ y. y; nothing = acting_made shapes (is_some (poll.gives l m.poll found)) Op.Poll tt }))
+  kind (Task.End g) busy = inr (inr (record { same = refl; silent = λ y. y; nothing = λ e h. refl }))
+  kind (Task.Leave x) busy = inr (inr (record { same = ended_leave (leave.goes x found) (leave.gives x found); silent = λ y. y; nothing = acting_made shapes (is_some (leave.gives x found)) Op.Leave tt }))
 
   -- a step of a sweep is one of a search
   pub sweeps_plain : (t : Task) (sw : Sweeping) → sweep_at t ≡ Some sw → (uncounted t ≡ 0) × (uncounted (takes_at l shapes m t found).task ≡ 0)

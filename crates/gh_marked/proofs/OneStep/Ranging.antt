@@ -1,16 +1,6 @@
 -- An operation that is still to act is one of those that may begin: its goroutine, registers and global are there. So the heap that never frees stays bounded.
 use Rattle.std.proofs.Common.{◌≡◌, ℕ, ◌<◌, ◌⊎◌, ◌==◌, Bool, true, false, cond, refl, sym, ap, subst, ◌∙◌, arith, List, [], ◌∷◌, length, Option, Some, None, eq-eqb}
-use Rattle.gh_base.specs.declared.value.Answer.TheVariants as answers
-use Rattle.gh_base.specs.Orders.{with_point}
-use Rattle.gh_cycle.specs.Reached.{IsInRange}
-use Rattle.gh_model.specs.Ever.{answer_of}
-use Rattle.gh_lists.specs.declared.handshake.Actor.TheVariants as actor
-use Rattle.gh_marked.proofs.Vocabulary.{Act, acted, Actor, actors, acts, answer_at, Arena, arena, Begins, by, deeds, DeedsFit, Entry, Ever, has_point, in_range, is_busy, is_busy_at, IsBounded, Kind, Legal, may_of, nat_tests, Op, point_of, Processor, processor_at, processor_kind, started, state_of, takes, those}
-use Rattle.gh_lists.specs.Beginning.{may_parts}
-use Rattle.gh_marked.specs.Known.{Known}
-use Rattle.gh_lists.specs.Resting.{runs_are, state_stays}
-use Rattle.gh_lists.specs.Seats.{run_started}
-use Rattle.gh_lists.specs.Lists.{Given, setup_for}
+use Rattle.gh_marked.proofs.Vocabulary.{Act, acted, Actor, actors, acts, Answer, answer_at, answer_of, Arena, arena, Begins, by, deeds, DeedsFit, Entry, Ever, Given, has_point, in_range, is_busy, is_busy_at, IsBounded, IsInRange, Kind, Known, Legal, may_of, may_parts, nat_tests, Op, point_of, Processor, processor_at, processor_kind, run_started, runs_are, setup_for, started, state_of, state_stays, takes, those, with_point}
 
 module _ (z : Arena) where
   abbrev InRange : Op → Type 0
@@ -46,7 +36,7 @@ module _ (given : Given) (known : Known) where
     abbrev now : Processor
     now = started k e.begun m
 
-    here : state_of all e.actor es ≡ actor.Runs m
+    here : state_of all e.actor es ≡ Actor.Runs m
     here = runs_are (setup_for given) es e.actor lt
 
     pub busy_now : is_busy_at now.task ≡ true
@@ -98,7 +88,7 @@ module _ (given : Given) (known : Known) where
 
   -- so each point keeps the heap that never frees bounded
   module _ (e : Entry Op) (es : List (Entry Op)) (legal : Legal (those (setup_for given)) (e ∷ es)) (lt : e.actor < given.layout.procs) (x : Ever) (bounded : IsBounded z x) where
-    answered_so : (y : Act) (b : Bool) → y.full ≡ b → (answer_at given.shapes x y ≡ answer_of given.shapes x y.op) ⊎ (answer_at given.shapes x y ≡ answers.Full)
+    answered_so : (y : Act) (b : Bool) → y.full ≡ b → (answer_at given.shapes x y ≡ answer_of given.shapes x y.op) ⊎ (answer_at given.shapes x y ≡ Answer.Full)
     answered_so y b is = grind arith
 
     pub bounded_then : IsBounded z (acted given.shapes x (acts given.layout (now e es legal lt) e.found))

@@ -1,19 +1,7 @@
 -- An operation that is answered `full` acted where there was no room for its object: the search behind its wait saw that.
 use Rattle.std.proofs.Common.{◌≡◌, ◌≢◌, ℕ, ◌+◌, ◌-◌, ◌<◌, ◌≤◌, ◌⊎◌, inl, inr, Bool, true, false, eqb, ltb, refl, sym, ap, ◌∙◌, arith, List, Option, Some, None}
-use Rattle.gh_base.specs.declared.operation.Op.TheVariants as op
-use Rattle.gh_base.specs.Shapes.{shape_at}
-use Rattle.gh_class.specs.declared.class.SizeClass.TheVariants as size
-use Rattle.gh_class.specs.declared.class.SpanClass.{SpanClass}
-use Rattle.gh_heap.specs.Spans.{IsFull, owner_at, owner_in}
-use Rattle.gh_alloc.specs.declared.sought.Sought.{Sought}
-use Rattle.gh_alloc.specs.declared.sought.Sought.TheVariants.{Large, Small}
-use Rattle.gh_alloc.specs.Find.{span_for}
-use Rattle.gh_mutator.specs.declared.task.Task.TheVariants as task
-use Rattle.gh_mutator_heap.specs.Facts.{FoundNone, FullAt}
-use Rattle.gh_mutator.specs.New.{sought_for}
-use Rattle.gh_marked.specs.HoldVocabulary.{View}
-use Rattle.gh_lists.specs.Processors.{IsAnothers, IsOfSpanClass, NoRoomFor}
-use Rattle.gh_marked.proofs.Vocabulary.{Act, acts_at, Arena, eqb-false, eqb-true, Good, Head, Heap, IsFullFor, Layout, ltb-false, ltb-true, NewStage, Op, page_of, point_of, Processor, processor_kind, Right, Search, Shape, SpanHead, started, Task, view, Words}
+use Rattle.std.proofs.lemmas.Bool.{eqb-false, eqb-true, ltb-false, ltb-true}
+use Rattle.gh_marked.proofs.Vocabulary.{Act, acts_at, Arena, FoundNone, FullAt, Good, Head, Heap, IsAnothers, IsFull, IsFullFor, IsOfSpanClass, Large, Layout, NewStage, NoRoomFor, Op, owner_at, owner_in, page_of, point_of, Processor, processor_kind, Right, Search, Shape, shape_at, SizeClass, Small, Sought, sought_for, span_for, SpanClass, SpanHead, started, Task, View, view, Words}
 
 -- a slot is searched for once more, behind the wait
 abbrev Searched : NewStage → Type 0
@@ -21,7 +9,7 @@ Searched (Search waited q) = waited ≡ true
 Searched _ = ⊥
 
 abbrev pub IsSearchedAgain : Task → Type 0
-IsSearchedAgain (task.New x) = Searched x.stage
+IsSearchedAgain (Task.New x) = Searched x.stage
 IsSearchedAgain _ = ⊥
 
 pub full_searches : (l : Layout) (m : Processor) (t : Task) (found : ℕ) (x : Act) → acts_at l m t found ≡ Some x → x.full ≡ true → IsSearchedAgain t
@@ -74,7 +62,7 @@ module _ (z : Arena) (h : Heap) (good : Good z (view h)) (others : (a : ℕ) →
     run = λ first le. let d = f.no_run first le in let lt = d.1 in
         record { page = first + d.0; lies = (omega arith, omega (arith, lt)); taken = record { not_free = d.2.taken; in_none = λ p x unused. d.2.used p x unused.span unused.lies.0 unused.lies.1 unused.unowned unused.empty } };
   } where
-    class_so : (p : ℕ) (x : SpanHead) (is : IsOfSpanClass h.words sought p x) (c : SpanClass) → sought ≡ Small c → (x.class ≡ size.Small c.class) × (x.noscan ≡ c.noscan)
+    class_so : (p : ℕ) (x : SpanHead) (is : IsOfSpanClass h.words sought p x) (c : SpanClass) → sought ≡ Small c → (x.class ≡ SizeClass.Small c.class) × (x.noscan ≡ c.noscan)
     class_so p x is c e = (is.class ∙ ap (λ (q : Sought). (span_for q).class) e, is.noscan ∙ ap (λ (q : Sought). (span_for q).noscan) e)
 
     owned : (p : ℕ) (x : SpanHead) (is : IsOfSpanClass h.words sought p x) (c : SpanClass) → sought ≡ Small c → x.owner ≢ a + 1
@@ -89,5 +77,5 @@ module _ (z : Arena) (h : Heap) (good : Good z (view h)) (others : (a : ℕ) →
         ]
 
   pub full_for : (a : ℕ) (y : Processor) (o : Op) → FullAt z a v y o → IsFullFor z a h.words o
-  full_for a y (op.New g d t) f = no_room a y (sought_for (shape_at z.shapes t)) f
+  full_for a y (Op.New g d t) f = no_room a y (sought_for (shape_at z.shapes t)) f
   full_for a y _ f = f

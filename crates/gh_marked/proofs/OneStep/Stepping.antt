@@ -1,20 +1,12 @@
 -- One entry more of a processor, whatever the coordinator's stage: the one state goes on.
 use Rattle.std.proofs.Common.{◌≡◌, ◌≢◌, ℕ, ◌<◌, ◌==◌, Bool, true, false, refl, sym, ap, subst, ◌∙◌, arith, List, ◌∷◌}
-use Rattle.gh_base.specs.Cells.{seats_of}
-use Rattle.gh_mutator.specs.Sweeping.{sweep_in}
+use Rattle.std.proofs.lemmas.Bool.{eqb-true}
+use Rattle.gh_marked.proofs.Vocabulary.{Actor, actors_after, Arena, arena, Entry, Given, HasState, IsInLimits, IsInSweep, Known, Legal, may_of, nat_tests, Op, other, Processor, processor_at, processor_kind, runs_are, seats_of, setup_for, ShapesAreGood, started, State, state_stays, sweep_in, sweep_of, TellsStacks, those, uncounted}
 use Rattle.gh_state.specs.Moves as state
-use Rattle.gh_marked.specs.HoldVocabulary.{State}
-use Rattle.gh_marked.specs.Sweepers.{IsInSweep, sweep_of}
-use Rattle.gh_marked.proofs.Vocabulary.{Actor, actors_after, Arena, arena, Entry, eqb-true, HasState, IsInLimits, Legal, may_of, nat_tests, Op, Processor, processor_at, processor_kind, ShapesAreGood, started, those, uncounted}
-use Rattle.gh_marked.specs.Known.{Known}
 use Rattle.gh_marked.proofs.OneStep.Landing as landing
 use Rattle.gh_marked.proofs.OneStep.OwnSide as own
-use Rattle.gh_lists.specs.Resting.{runs_are, state_stays}
-use Rattle.gh_marked.specs.StackWords.{TellsStacks}
 use Rattle.gh_marked.proofs.OneStep.Sweepers as sweepers
 use Rattle.gh_marked.proofs.OneStep.Wanted.{Wanted}
-use Rattle.gh_lists.specs.Seats.{other}
-use Rattle.gh_lists.specs.Lists.{Given, setup_for}
 
 apart : (a b : ℕ) → (a == b) ≡ false → b ≢ a
 apart a b x y = grind (arith, nat_tests)

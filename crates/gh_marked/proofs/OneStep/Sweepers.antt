@@ -1,20 +1,10 @@
 -- The sweeps that actors run: what is known of one lasts under the moves of others, and goes on with its own steps.
 use Rattle.std.proofs.Common.{◌≡◌, ◌≢◌, ℕ, ◌+◌, ◌<◌, Bool, true, false, cond, refl, sym, ap, subst, ◌∙◌, arith, Option, Some, None}
-use Rattle.gh_base.specs.declared.cell.Cell.TheVariants as cell
-use Rattle.gh_base.specs.declared.pack.PageWord.TheVariants.{Head}
-use Rattle.gh_base.specs.Cells.{seats_of}
+use Rattle.gh_marked.proofs.Vocabulary.{Arena, Ask, BeginsSweep, Cell, cell_of, Deed, generation_of, GoesOn, Head, IsInSweep, Known, on_from, page_of, seats_of, SeatSweepsNothing, State, StateGood, Sweeping, SweepRuns, SweepStage}
 use Rattle.gh_heap.specs.Moves as heap
-use Rattle.gh_state.specs.Moves.{Count, Deed, Move, moved, Others, Sweep}
-use Rattle.gh_state.specs.Routines.{GoesOn}
-use Rattle.gh_sweep.specs.declared.sweep.SweepStage.{SweepStage}
+use Rattle.gh_state.specs.Moves.{Count, Move, moved, Others, Sweep}
 use Rattle.gh_sweep.specs.Listing as sweep
-use Rattle.gh_sweep.specs.Listing.{Sweeping}
-use Rattle.gh_sweep.specs.Running.{BeginsSweep, on_from}
 use Rattle.gh_sweep.specs.Sweepers.{move_at, move_of}
-use Rattle.gh_marked.specs.HoldVocabulary.{generation_of, page_of, SeatSweepsNothing, State, StateGood, SweepRuns}
-use Rattle.gh_marked.specs.Sweepers.{IsInSweep}
-use Rattle.gh_marked.proofs.Vocabulary.{Arena, Ask, cell_of}
-use Rattle.gh_marked.specs.Known.{Known}
 
 module _ (known : Known) (z : Arena) (a : ℕ) where
   -- Under the moves of others.
@@ -39,15 +29,15 @@ module _ (known : Known) (z : Arena) (a : ℕ) where
   rests_counted s r = record { none = r.none; told = r.told }
 
   -- It begins one where it has found the head of an unswept span.
-  pub begins : (t : State) → StateGood z t → SeatSweepsNothing a t → (generation : ℕ) (step : Ask) (found : ℕ) (m : Sweeping) → generation ≡ t.heap.words cell.Gen → found ≡ t.heap.words (cell_of step) → BeginsSweep generation step found m → IsInSweep a t (Some m)
+  pub begins : (t : State) → StateGood z t → SeatSweepsNothing a t → (generation : ℕ) (step : Ask) (found : ℕ) (m : Sweeping) → generation ≡ t.heap.words Cell.Gen → found ≡ t.heap.words (cell_of step) → BeginsSweep generation step found m → IsInSweep a t (Some m)
   begins t good rest generation step found m number found_is b = (
     subst (SweepRuns a t) (sym b.sweep_is) (known.sweeps.opens z a t b.page b.head good told rest head unswept),
     ap (λ (y : Sweeping). sweep.is_busy y.stage) b.sweep_is,
   ) where
-    head : page_of (t.heap.words (cell.Page b.page)) ≡ Head b.head
+    head : page_of (t.heap.words (Cell.Page b.page)) ≡ Head b.head
     head = ap page_of (sym (found_is ∙ ap (λ (q : Ask). t.heap.words (cell_of q)) b.step_is)) ∙ b.head_is
 
-    differs : b.head.number ≢ t.heap.words cell.Gen
+    differs : b.head.number ≢ t.heap.words Cell.Gen
     differs same = let n = b.number in omega (arith, n, same, number)
 
     told : t.told ≡ None
@@ -56,7 +46,7 @@ module _ (known : Known) (z : Arena) (a : ℕ) where
     unswept : b.head.number + 2 ≡ generation_of t.end
     unswept = b.number ∙ (number ∙ good.sweep.generation)
 
-  pub begins_or_rests : (t : State) → StateGood z t → SeatSweepsNothing a t → (generation : ℕ) (step : Ask) (found : ℕ) (x : Option Sweeping) → generation ≡ t.heap.words cell.Gen → found ≡ t.heap.words (cell_of step) → ((m : Sweeping) → x ≡ Some m → BeginsSweep generation step found m) → IsInSweep a t x
+  pub begins_or_rests : (t : State) → StateGood z t → SeatSweepsNothing a t → (generation : ℕ) (step : Ask) (found : ℕ) (x : Option Sweeping) → generation ≡ t.heap.words Cell.Gen → found ≡ t.heap.words (cell_of step) → ((m : Sweeping) → x ≡ Some m → BeginsSweep generation step found m) → IsInSweep a t x
   begins_or_rests t good rest generation step found None number found_is b = rest
   begins_or_rests t good rest generation step found (Some m) number found_is b = begins t good rest generation step found m number found_is (b m refl)
 

@@ -1,6 +1,5 @@
 -- What is asked of packed words, of slots, of searches and of the moves of marking, beside what is known of steps and moves.
-use Rattle.gh_base.specs.Packing.{PackedWordsAreReadBack}
-use Rattle.gh_marks.specs.Laws.{EachStepGoesByMoves, TheCursorIsSmall}
+use Rattle.gh_marked.proofs.Vocabulary.{EachStepGoesByMoves, PackedWordsAreReadBack, TheCursorIsSmall}
 use Rattle.gh_state.specs.Slots.{SlotsAreRead}
 use Rattle.gh_marked.proofs.OneStep.Counting.{WholeWords}
 use Rattle.gh_marked.proofs.OneStep.FreshPages.{WritesOfSearches}

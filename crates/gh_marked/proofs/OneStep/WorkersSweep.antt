@@ -1,42 +1,26 @@
 -- The step of a worker: where it runs a sweep the step is the sweep's; else it runs none behind it, or has begun one, whatever the coordinator's stage.
 use Rattle.std.proofs.Common.{◌≡◌, ℕ, true, sym, ap, subst, ◌∙◌, List, ◌∷◌, Option, Some, None, arith}
-use Rattle.gh_base.specs.declared.cell.Cell.TheVariants as cell
+use Rattle.gh_marked.proofs.Vocabulary.{Actor, actors, actors_after, Arena, arena, Ask, BeginsSweep, Cell, cell_of, effect, Entry, HasState, is_busy, IsAtWork, IsAwake, IsInSweep, IsSeated, Legal, ListsKnown, Load, Op, Party, seated, SeatSweepsNothing, Setup, started, State, StateGood, sweep_of, Sweeping, SweepsOn, those, Words, words, worker_started, works}
 use Rattle.gh_sweep.specs.Listing as sweep
-use Rattle.gh_sweep.specs.Listing.{Sweeping}
-use Rattle.gh_sweep.specs.Running.{BeginsSweep, SweepsOn}
-use Rattle.gh_worker.specs.Handshake as working
 use Rattle.gh_worker.specs.Listing as worker
-use Rattle.gh_worker.specs.Places.{IsAtWork}
-use Rattle.gh_lists.specs.declared.handshake.Actor.TheVariants as actor
-use Rattle.gh_lists.specs.Handshake.{asks, Sound as SoundActor, Setup}
-use Rattle.gh_marked.specs.HoldVocabulary.{SeatSweepsNothing}
-use Rattle.gh_marked.specs.Sweepers.{IsInSweep, sweep_of}
-use Rattle.gh_marked.proofs.Vocabulary.{Actor, actors, actors_after, Arena, arena, Ask, cell_of, effect, Entry, HasState, is_busy, IsAwake, Legal, Load, Op, Party, started, State, StateGood, those, Words, words}
-use Rattle.gh_marked.specs.Known.{ListsKnown}
+use Rattle.gh_lists.specs.Handshake.{asks}
 use Rattle.gh_marked.proofs.OneStep.Sweepers as sweepers
-use Rattle.gh_lists.specs.Seats.{IsSeated, seated, worker_started, works}
 
 module _ (setup : Setup) (lists : ListsKnown setup)
-    (e : Entry Op) (es : List (Entry Op)) (legal : Legal (those setup) (e ∷ es)) (w : worker.Working) (is : actors_after (arena setup) setup.pacing setup.may es e.actor ≡ actor.Marks w) where
+    (e : Entry Op) (es : List (Entry Op)) (legal : Legal (those setup) (e ∷ es)) (w : worker.Working) (is : actors_after (arena setup) setup.pacing setup.may es e.actor ≡ Actor.Marks w) where
   abbrev z : Arena
   z = arena setup
 
   abbrev at : List (Entry Op) → ℕ → Actor
   at xs a = actors_after z setup.pacing setup.may xs a
 
-  begun_is : started (actors setup) e.begun (at es e.actor) ≡ actor.Marks w
+  begun_is : started (actors setup) e.begun (at es e.actor) ≡ Actor.Marks w
   begun_is = ap (started (actors setup) e.begun) is ∙ worker_started setup e.begun w
 
   pub asked : e.ask ≡ worker.asks setup.layout w
   asked = legal.1.asks ∙ ap (asks setup.layout) begun_is
 
-  pub busy : worker.is_busy w.stage ≡ true
-  busy = sym (ap is_busy begun_is) ∙ legal.1.runs
-
-  pub sound : working.Sound w
-  sound = subst (SoundActor setup.layout) is ((lists.keeps es legal.0).shakes.all_sound e.actor legal.1.actor)
-
-  its_seat : IsSeated setup.layout e.actor (actor.Marks w)
+  its_seat : IsSeated setup.layout e.actor (Actor.Marks w)
   its_seat = subst (IsSeated setup.layout e.actor) is (seated setup es e.actor)
 
   pub sweeps_before : sweep_of (at es e.actor) ≡ worker.sweep_in w
@@ -58,7 +42,7 @@ module _ (setup : Setup) (lists : ListsKnown setup)
       b : BeginsSweep w.view.generation (worker.asks setup.layout w) e.found m
       b = (lists.known.workers_sweep.runs setup.layout).begins w e.found m none then
 
-      load_is : e.ask ≡ Load (cell.Page b.page)
+      load_is : e.ask ≡ Load (Cell.Page b.page)
       load_is = asked ∙ b.step_is
 
       same_words : (c : _) → t.heap.words c ≡ words setup es c
@@ -68,8 +52,8 @@ module _ (setup : Setup) (lists : ListsKnown setup)
       at_work : IsAtWork w
       at_work = lists.known.workers_places.looks w (lists.known.workers_places.begins setup.layout w e.found m then)
 
-      number : w.view.generation ≡ t.heap.words cell.Gen
-      number = ap (λ (p : Party). p.view.generation) (sym at_work.party_is) ∙ (((lists.keeps es legal.0).workers_know e.actor w its_seat.1 is (subst IsAwake (sym at_work.awake) tt)).generation_is ∙ sym (same_words cell.Gen))
+      number : w.view.generation ≡ t.heap.words Cell.Gen
+      number = ap (λ (p : Party). p.view.generation) (sym at_work.party_is) ∙ (((lists.keeps es legal.0).workers_know e.actor w its_seat.1 is (subst IsAwake (sym at_work.awake) tt)).generation_is ∙ sym (same_words Cell.Gen))
 
       loaded : e.found ≡ t.heap.words (cell_of (worker.asks setup.layout w))
       loaded = legal.1.found ∙ (ap (λ (q : Ask). words setup es (cell_of q)) asked ∙ sym (same_words (cell_of (worker.asks setup.layout w))))

@@ -1,28 +1,16 @@
 -- Each global is counted once in a cycle. While one is marked each that the cursor has passed in it is counted, but for those that workers have in hand; where its marking ends the cursor is past all, and nobody has one.
 use Rattle.std.proofs.Common.{◌≡◌, ◌≢◌, inl, inr, ℕ, suc, ◌+◌, ◌*◌, ◌<◌, ◌≤◌, ◌==◌, min, Bool, true, false, cond, ltb, refl, sym, ap, subst, ◌∙◌, arith, List, [], ◌∷◌}
-use Rattle.std.proofs.Math.Nat.{mul-le-mul_right}
-use Rattle.gh_base.specs.declared.cell.Cell.TheVariants as cell
+use Rattle.gh_marked.proofs.Vocabulary.{acks_of, Actor, Add, Ask, Cell, cell_of, claimed_by, Coordinating, CoordinatorGoes, CoordStage, CountsPlainly, done_by, effect, Entry, global_by, global_done, global_in_hand, globals_held, globals_in, GlobalsAreCounted, goes_on, goes_so, IsBeginning, IsEnding, IsLed, KeepsIt, Layout, leaves, leaves_numbers, Legal, mul-le-mul_right, nat_tests, objects_by, objects_in, Op, other, Processor, processor_kind, ProcessorWritesItsOwn, scanned_in, seats_of, Setup, started, stored_in, stores_cell, takes, those, words, WorkersAreRoutines, WorkersCountGlobals, Working}
 use Rattle.gh_coord.specs.Handshake as leading
 use Rattle.gh_coord.specs.Listing as coord
-use Rattle.gh_mutator.specs.Listing.{takes}
-use Rattle.gh_worker.specs.Globals.{claimed_by, global_done, global_held, WorkersCountGlobals}
 use Rattle.gh_worker.specs.Listing as worker
-use Rattle.gh_worker.specs.Routine.{WorkersAreRoutines}
-use Rattle.gh_lists.specs.declared.handshake.Actor.TheVariants as actor
-use Rattle.gh_lists.specs.Lists.{IsEnding}
-use Rattle.gh_lists.specs.Counts.{CountsPlainly, stored_in, stores_cell}
 use Rattle.gh_marked.specs.EveryCycle.{CursorGoes}
-use Rattle.gh_marked.specs.Scanned.{done_by, global_by, global_in_hand, globals_held, globals_in, GlobalsAreCounted, objects_by, objects_in, scanned_in}
 use Rattle.gh_lists.specs.Waits.{WorkersRest}
-use Rattle.gh_marked.proofs.Vocabulary.{acks_of, Actor, Add, Ask, cell_of, Coordinating, CoordStage, effect, Entry, IsBeginning, IsLed, KeepsIt, Layout, Legal, nat_tests, Op, Processor, processor_kind, ProcessorWritesItsOwn, seats_of, started, those, words, Working}
-use Rattle.gh_marked.specs.Checking.{begins, CoordinatorGoes, goes_on, goes_so, leaves}
-use Rattle.gh_lists.specs.Seats.{other}
+use Rattle.gh_marked.specs.Checking.{begins}
 use Rattle.gh_lists.specs.Leaving.{ends_marking, marks_or_not}
 use Rattle.gh_lists.specs.Steps as seats
 use Rattle.gh_lists.specs.Sums.{total_at, total_none, total_same}
-use Rattle.gh_lists.specs.Writing.{leaves_numbers}
 use Rattle.gh_marked.proofs.Scanned.Claims.{IsClearing, leads_at, leaves_cursor, LeavesCursor, works_at}
-use Rattle.gh_lists.specs.Handshake.{Setup}
 
 -- the cursor moves on by one
 moves_on : (cursor globals : ℕ) → min (cursor + 1) globals ≡ min cursor globals + cond (ltb cursor globals) 1 0
@@ -37,7 +25,7 @@ beginning_off : (p : CoordStage) → IsBeginning p → leading.Marks p → ⊥
 beginning_off p is on = grind arith
 
 module _ (l : Layout) (c : Coordinating) where
-  ending_asks : (p : CoordStage) → IsEnding p → stores_cell cell.Gen (coord.asks_at l c p) ≡ true
+  ending_asks : (p : CoordStage) → IsEnding p → stores_cell Cell.Gen (coord.asks_at l c p) ≡ true
   ending_asks p is = grind arith
 
   ending_off : (p : CoordStage) (found : ℕ) → IsEnding p → leading.Marks (coord.goes_at l c p found).stage → ⊥
@@ -61,10 +49,10 @@ module _ (setup : Setup) (cited : Cited setup) where
   who es a = seats.at setup es a
 
   abbrev cursor : List (Entry Op) → ℕ
-  cursor es = words setup es cell.Gcur
+  cursor es = words setup es Cell.Gcur
 
   abbrev ended : List (Entry Op) → ℕ
-  ended es = stored_in cell.Gen es
+  ended es = stored_in Cell.Gen es
 
   abbrev counted : List (Entry Op) → ℕ
   counted es = globals_in setup es
@@ -78,10 +66,10 @@ module _ (setup : Setup) (cited : Cited setup) where
     least : ended es * setup.layout.globals ≤ counted es
 
   abbrev Counts : List (Entry Op) → Type 0
-  Counts es = (c : Coordinating) → who es n ≡ actor.Leads c → Counted es c
+  Counts es = (c : Coordinating) → who es n ≡ Actor.Leads c → Counted es c
 
   -- while no cycle is marked nobody has a global in hand
-  none_held : (es : List (Entry Op)) → Legal (those setup) es → (c : Coordinating) → who es n ≡ actor.Leads c → (leading.Marks c.stage → ⊥) → held es ≡ 0
+  none_held : (es : List (Entry Op)) → Legal (those setup) es → (c : Coordinating) → who es n ≡ Actor.Leads c → (leading.Marks c.stage → ⊥) → held es ≡ 0
   none_held es legal c led off = total_none (λ a. global_in_hand (who es a)) (seats_of setup.layout) (λ a lt. go a (who es a) refl) where
     go : (a : ℕ) (y : Actor) → who es a ≡ y → global_in_hand (who es a) ≡ 0
     go a y is = grind arith
@@ -92,10 +80,10 @@ module _ (setup : Setup) (cited : Cited setup) where
 
   module _ (e : Entry Op) (es : List (Entry Op)) (legal : Legal (those setup) (e ∷ es)) (was : Counts es) where
     -- what the step leaves
-    ended_same : stores_cell cell.Gen e.ask ≡ false → ended (e ∷ es) ≡ ended es
+    ended_same : stores_cell Cell.Gen e.ask ≡ false → ended (e ∷ es) ≡ ended es
     ended_same is = ap (λ (b : Bool). cond b (suc (ended es)) (ended es)) is
 
-    whole_same : stores_cell cell.Gen e.ask ≡ false → ended (e ∷ es) * setup.layout.globals ≡ ended es * setup.layout.globals
+    whole_same : stores_cell Cell.Gen e.ask ≡ false → ended (e ∷ es) * setup.layout.globals ≡ ended es * setup.layout.globals
     whole_same is = ap (λ (k : ℕ). k * setup.layout.globals) (ended_same is)
 
     -- who steps without being a worker has no global in hand, and is done with none
@@ -118,8 +106,8 @@ module _ (setup : Setup) (cited : Cited setup) where
     by_processor m x same c led =
         let b : Counted es c = was c (sym same ∙ led) in
         let q : LeavesCursor e.ask = subst LeavesCursor (sym x.asked) (leaves_cursor _ (leaves_numbers cited.writes setup.layout (started (processor_kind setup.shapes setup.layout) e.begun m) x.sound_then)) in
-        let h = held_same (actor.Runs m) (actor.Runs (takes setup.layout setup.shapes (started (processor_kind setup.shapes setup.layout) e.begun m) e.found)) x.is x.then refl refl refl in
-        let k = counted_same (actor.Runs m) (actor.Runs (takes setup.layout setup.shapes (started (processor_kind setup.shapes setup.layout) e.begun m) e.found)) x.is x.then refl refl refl in
+        let h = held_same (Actor.Runs m) (Actor.Runs (takes setup.layout setup.shapes (started (processor_kind setup.shapes setup.layout) e.begun m) e.found)) x.is x.then refl refl refl in
+        let k = counted_same (Actor.Runs m) (Actor.Runs (takes setup.layout setup.shapes (started (processor_kind setup.shapes setup.layout) e.begun m) e.found)) x.is x.then refl refl refl in
         let g = whole_same q.ends in
         let u = q.cursor (words setup es) in
         record {
@@ -129,7 +117,7 @@ module _ (setup : Setup) (cited : Cited setup) where
         }
 
     -- a worker's
-    module _ (w : Working) (x : seats.WorksIt setup e es w) (c : Coordinating) (led : who es n ≡ actor.Leads c) where
+    module _ (w : Working) (x : seats.WorksIt setup e es w) (c : Coordinating) (led : who es n ≡ Actor.Leads c) where
       b : Counted es c
       b = was c led
 
@@ -146,26 +134,26 @@ module _ (setup : Setup) (cited : Cited setup) where
       both_now : counted (e ∷ es) + held (e ∷ es) ≡ counted es + held es + claimed_by setup.layout (worker.asks setup.layout w) e.found
       both_now =
           let one = total_at (λ a. global_in_hand (who es a)) (λ a. global_in_hand (who (e ∷ es) a)) (seats_of setup.layout) e.actor seat_in (λ a lt ne. ap global_in_hand (others a ne)) in
-          let two : global_in_hand (who es e.actor) ≡ global_held w.stage = ap global_in_hand x.is in
-          let three : global_in_hand (who (e ∷ es) e.actor) ≡ global_held (worker.goes setup.layout w e.found).stage = ap global_in_hand x.then in
+          let two : global_in_hand (who es e.actor) ≡ worker.global_held w.stage = ap global_in_hand x.is in
+          let three : global_in_hand (who (e ∷ es) e.actor) ≡ worker.global_held (worker.goes setup.layout w e.found).stage = ap global_in_hand x.then in
           let now = counted_now in
           let four = cited.globals.holds setup.layout w e.found in
           omega (arith, one, two, three, now, four)
 
-      stays_or_moves : (stores_cell cell.Gen e.ask ≡ false) × (leading.Marks c.stage → min (cursor (e ∷ es)) setup.layout.globals ≡ min (cursor es) setup.layout.globals + claimed_by setup.layout (worker.asks setup.layout w) e.found)
+      stays_or_moves : (stores_cell Cell.Gen e.ask ≡ false) × (leading.Marks c.stage → min (cursor (e ∷ es)) setup.layout.globals ≡ min (cursor es) setup.layout.globals + claimed_by setup.layout (worker.asks setup.layout w) e.found)
       stays_or_moves = elim (works_at cited.workers setup.layout w x.sound_it) [
         | inl y ↦ (
             let q : LeavesCursor e.ask = subst LeavesCursor (sym x.asked) y.leaves in
             (q.ends, λ on. let u = ap (λ (i : ℕ). min i setup.layout.globals) (q.cursor (words setup es)) in let none = y.none e.found in omega (arith, u, none))
             )
         | inr is ↦ (
-            let ask_is : e.ask ≡ Add cell.Gcur 1 = x.asked ∙ is in
+            let ask_is : e.ask ≡ Add Cell.Gcur 1 = x.asked ∙ is in
             let found_is : e.found ≡ cursor es = legal.1.found ∙ ap (λ (q : Ask). words setup es (cell_of q)) ask_is in
             let claimed : claimed_by setup.layout (worker.asks setup.layout w) e.found ≡ cond (ltb (cursor es) setup.layout.globals) 1 0 = ap (λ (q : Ask). claimed_by setup.layout q e.found) is ∙ ap (λ (i : ℕ). cond (ltb i setup.layout.globals) 1 0) found_is in (
-              ap (stores_cell cell.Gen) ask_is,
+              ap (stores_cell Cell.Gen) ask_is,
               λ on.
                   let few = cited.cursor.small es c legal.0 led on in
-                  let now : cursor (e ∷ es) ≡ cursor es + 1 = ap (λ (q : Ask). effect (words setup es) q cell.Gcur) ask_is ∙ omega (arith, few) in
+                  let now : cursor (e ∷ es) ≡ cursor es + 1 = ap (λ (q : Ask). effect (words setup es) q Cell.Gcur) ask_is ∙ omega (arith, few) in
                   let u = ap (λ (i : ℕ). min i setup.layout.globals) now in
                   let moved = moves_on (cursor es) setup.layout.globals in
                   u ∙ moved ∙ ap (λ (i : ℕ). min (cursor es) setup.layout.globals + i) (sym claimed),
@@ -191,26 +179,26 @@ module _ (setup : Setup) (cited : Cited setup) where
       abbrev to : Coordinating
       to = coord.goes setup.layout c e.found
 
-      was_at : who es e.actor ≡ actor.Leads c
+      was_at : who es e.actor ≡ Actor.Leads c
       was_at = ap (who es) x.seat ∙ x.is
 
-      now_at : who (e ∷ es) e.actor ≡ actor.Leads to
+      now_at : who (e ∷ es) e.actor ≡ Actor.Leads to
       now_at = ap (who (e ∷ es)) x.seat ∙ x.then
 
       h : held (e ∷ es) ≡ held es
       h = grind (arith, nat_tests)
 
       k : counted (e ∷ es) ≡ counted es
-      k = counted_same (actor.Leads c) (actor.Leads to) was_at now_at refl refl refl
+      k = counted_same (Actor.Leads c) (Actor.Leads to) was_at now_at refl refl refl
 
       goes_by : CoordinatorGoes setup.layout c.begun (words setup es) c c.stage to
       goes_by = goes_so setup.layout c.begun (words setup es) c (coord.counted c).marks refl c.stage e.found x.busy x.found
 
-      asks_is : stores_cell cell.Gen e.ask ≡ stores_cell cell.Gen (coord.asks setup.layout c)
-      asks_is = ap (stores_cell cell.Gen) x.asked
+      asks_is : stores_cell Cell.Gen e.ask ≡ stores_cell Cell.Gen (coord.asks setup.layout c)
+      asks_is = ap (stores_cell Cell.Gen) x.asked
 
       -- where it is not the end of a cycle's marking
-      goes_still : stores_cell cell.Gen e.ask ≡ false → (leading.Marks to.stage → (counted es + held es ≡ ended es * setup.layout.globals + min (cursor (e ∷ es)) setup.layout.globals)) → Counted (e ∷ es) to
+      goes_still : stores_cell Cell.Gen e.ask ≡ false → (leading.Marks to.stage → (counted es + held es ≡ ended es * setup.layout.globals + min (cursor (e ∷ es)) setup.layout.globals)) → Counted (e ∷ es) to
       goes_still none far =
           let g = whole_same none in
           let same = k in
@@ -227,7 +215,7 @@ module _ (setup : Setup) (cited : Cited setup) where
       leaving : LeavesCursor (coord.asks setup.layout c) → Counted (e ∷ es) to
       leaving y = goes_still (asks_is ∙ y.ends) (by goes_by) where
         same : cursor (e ∷ es) ≡ cursor es
-        same = ap (λ (q : Ask). effect (words setup es) q cell.Gcur) x.asked ∙ y.cursor (words setup es)
+        same = ap (λ (q : Ask). effect (words setup es) q Cell.Gcur) x.asked ∙ y.cursor (words setup es)
 
         min_same : min (cursor (e ∷ es)) setup.layout.globals ≡ min (cursor es) setup.layout.globals
         min_same = ap (λ (i : ℕ). min i setup.layout.globals) same
@@ -263,7 +251,7 @@ module _ (setup : Setup) (cited : Cited setup) where
       leads_on = elim (leads_at setup.layout c c.stage) [ inl y ↦ leaving y | inr y ↦ elim y [ inl q ↦ clearing q | inr q ↦ ending q ] ]
 
     by_lead : (c : Coordinating) → seats.LeadsIt setup e es c → Counts (e ∷ es)
-    by_lead c x d led = subst (Counted (e ∷ es)) (let both : actor.Leads (coord.goes setup.layout c e.found) ≡ actor.Leads d = sym x.then ∙ led in cc) (leads_on c x)
+    by_lead c x d led = subst (Counted (e ∷ es)) (let both : Actor.Leads (coord.goes setup.layout c e.found) ≡ Actor.Leads d = sym x.then ∙ led in cc) (leads_on c x)
 
     by_step : seats.Step setup e es → Counts (e ∷ es)
     by_step (seats.by_processor m x same) = by_processor m x same
@@ -278,9 +266,9 @@ module _ (setup : Setup) (cited : Cited setup) where
   parts [] = refl
   parts (e ∷ es) = let rest = parts es in let now = parts_by (who es e.actor) in omega (arith, rest, now) where
     parts_by : (m : Actor) → done_by setup.layout m e.found ≡ global_by m e.found + objects_by setup.layout m e.found
-    parts_by (actor.Marks w) = cited.globals.parts setup.layout w e.found
-    parts_by (actor.Runs m) = refl
-    parts_by (actor.Leads c) = refl
+    parts_by (Actor.Marks w) = cited.globals.parts setup.layout w e.found
+    parts_by (Actor.Runs m) = refl
+    parts_by (Actor.Leads c) = refl
 
   pub globals_are_counted : (es : List (Entry Op)) (c : Coordinating) → Legal (those setup) es → IsLed setup es c → GlobalsAreCounted setup es c
   globals_are_counted es c legal led =

@@ -1,16 +1,13 @@
 -- The routine that a worker runs has a step to make, after every list: where an object's scan or a shading ends, the worker goes on.
 use Rattle.std.proofs.Common.{◌≡◌, ℕ, ◌==◌, Bool, true, false, cond, Option, refl, List, [], ◌∷◌, arith}
+use Rattle.gh_marked.proofs.Vocabulary.{Actor, actor_takes, actors, Entry, Kind, Layout, Op, Setup, Shaded, start, started, state_of, WorkerStage, Working}
 use Rattle.gh_scan.specs.Listing as scan
 use Rattle.gh_shade.specs.Listing as shade
-use Rattle.gh_worker.specs.declared.worker.WorkerStage.TheVariants as at
 use Rattle.gh_worker.specs.Listing as worker
-use Rattle.gh_lists.specs.declared.handshake.Actor.TheVariants as actor
-use Rattle.gh_lists.specs.Handshake.{start, actor_takes, Setup}
-use Rattle.gh_marked.proofs.Vocabulary.{Actor, actors, Entry, Kind, Layout, Op, Shaded, started, state_of, Working, WorkerStage}
 
 abbrev pub HasStep : WorkerStage → Type 0
-HasStep (at.Scanning s) = scan.is_busy s.stage ≡ true
-HasStep (at.Shading sh) = shade.is_busy sh.stage ≡ true
+HasStep (WorkerStage.Scanning s) = scan.is_busy s.stage ≡ true
+HasStep (WorkerStage.Shading sh) = shade.is_busy sh.stage ≡ true
 HasStep _ = Unit {0}
 
 module _ (l : Layout) (w : Working) where
@@ -21,12 +18,12 @@ module _ (l : Layout) (w : Working) where
   after_shade sh out is = grind arith
 
   goes_at : (p : WorkerStage) (found : ℕ) → HasStep (worker.goes_at l w p found).stage
-  goes_at (at.Scanning s) found = after_scan (scan.goes l s found) (scan.gives l s found) refl
-  goes_at (at.Shading sh) found = after_shade (shade.goes sh found) (shade.gives sh found) refl
+  goes_at (WorkerStage.Scanning s) found = after_scan (scan.goes l s found) (scan.gives l s found) refl
+  goes_at (WorkerStage.Shading sh) found = after_shade (shade.goes sh found) (shade.gives sh found) refl
   goes_at p found = grind arith
 
 abbrev Fits : Actor → Type 0
-Fits (actor.Marks w) = HasStep w.stage
+Fits (Actor.Marks w) = HasStep w.stage
 Fits _ = Unit {0}
 
 module _ (setup : Setup) where
@@ -37,9 +34,9 @@ module _ (setup : Setup) where
   opens a = grind arith
 
   taken : (found : ℕ) (m : Actor) → Fits (actor_takes setup.shapes setup.layout m found)
-  taken found (actor.Runs m) = tt
-  taken found (actor.Marks w) = goes_at setup.layout w w.stage found
-  taken found (actor.Leads c) = tt
+  taken found (Actor.Runs m) = tt
+  taken found (Actor.Marks w) = goes_at setup.layout w w.stage found
+  taken found (Actor.Leads c) = tt
 
   fits : (es : List (Entry Op)) (a : ℕ) → Fits (state_of all a es)
   fits [] a = opens a
@@ -48,5 +45,5 @@ module _ (setup : Setup) where
     go true f = taken e.found (started all e.begun (state_of all a es))
     go false f = f
 
-  pub has_step : (es : List (Entry Op)) (a : ℕ) (w : Working) → state_of all a es ≡ actor.Marks w → HasStep w.stage
+  pub has_step : (es : List (Entry Op)) (a : ℕ) (w : Working) → state_of all a es ≡ Actor.Marks w → HasStep w.stage
   has_step es a w is = grind (arith, fits)

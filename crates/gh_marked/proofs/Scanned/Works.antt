@@ -1,35 +1,27 @@
 -- A step of a worker while a cycle is marked: what it is done with is counted then, once for all. An object whose scan ends was taken before and is black behind; a global is scanned behind, or the object that it names has come into a buffer.
 use Rattle.std.proofs.Common.{◌≡◌, ◌≢◌, inl, inr, ℕ, ◌+◌, ◌*◌, ◌<◌, ◌≤◌, ◌==◌, Bool, true, false, cond, Option, Some, None, refl, sym, ap, ◌∙◌, arith}
-use Rattle.std.proofs.lemmas.Bool.Decides.{eqb_tells}
-use Rattle.gh_marks.specs.Colours.{Black, Claimed, Cycle, Pending, Progress, Read, Scanned, Shared, Taken, Untouched}
+use Rattle.gh_marked.proofs.Vocabulary.{AllGoOn, Black, black_last, by_entry, by_global, by_object, Claimed, ClaimOf, colour_goes, counted, Cycle, EachStepGoesByMoves, entered_high, eqb_tells, far, global_goes, global_there, grows, Hands, Layout, level, NoClaim, NoneBeyond, nothing, Pending, Progress, Read, ReadOf, Scanned, Shaded, Shared, StepsGoByMoves, Taken, Untouched, Went, WorkerStage, Working}
 use Rattle.gh_marks.specs.Good.{Good}
 use Rattle.gh_marks.specs.Knows.{KnowsObjects}
-use Rattle.gh_marks.specs.Laws.{EachStepGoesByMoves, StepsGoByMoves}
-use Rattle.gh_marks.specs.Moves.{Went}
-use Rattle.gh_marks.specs.Seats.{ClaimOf, Hands, NoClaim, nothing, ReadOf}
-use Rattle.gh_scan.specs.declared.scan.ScanStage.TheVariants as scan_at
 use Rattle.gh_scan.specs.Facts as scan_facts
 use Rattle.gh_scan.specs.Listing as scan
-use Rattle.gh_shade.specs.declared.shade.Shaded.TheVariants as shaded
-use Rattle.gh_shade.specs.declared.shade.ShadeStage.TheVariants as shade_at
 use Rattle.gh_shade.specs.Facts as shade_facts
 use Rattle.gh_shade.specs.Listing as shade
 use Rattle.gh_wbuf.specs.RoomFinding as room
-use Rattle.gh_worker.specs.declared.worker.WorkerStage.TheVariants as at
 use Rattle.gh_worker.specs.Listing as worker
 use Rattle.gh_worker.specs.MarkFacts as marks
 use Rattle.gh_worker.specs.Works.{scan_words, shading_word, words_done}
-use Rattle.gh_marked.proofs.Vocabulary.{Held, Layout, ScanStage, Shaded, ShadeStage, Working, WorkerStage}
-use Rattle.gh_marked.specs.Levels.{colour_goes, far, global_goes, global_there, level, NoneBeyond}
+use Rattle.gh_base.specs.declared.held.Held.{Held}
+use Rattle.gh_scan.specs.declared.scan.ScanStage.{ScanStage}
+use Rattle.gh_shade.specs.declared.shade.ShadeStage.{ShadeStage}
 use Rattle.gh_marked.proofs.Scanned.Routines.{HasStep}
-use Rattle.gh_marked.specs.Weights.{AllGoOn, black_last, by_entry, by_global, by_object, counted, entered_high, grows}
 
 -- The scan of an object ends with the words of its slot.
 module _ (words : ℕ) where
-  bits_give : (m : scan.Scanning) (found : ℕ) (b : Bool) → scan.given (cond b (record m { bits = found; stage = scan_at.LoadField }) (scan.behind (record m { bits = found }))) ≡ Some words → words ≡ m.slot
+  bits_give : (m : scan.Scanning) (found : ℕ) (b : Bool) → scan.given (cond b (record m { bits = found; stage = ScanStage.LoadField }) (scan.behind (record m { bits = found }))) ≡ Some words → words ≡ m.slot
   bits_give m found b is = grind arith
 
-  field_gives : (m : scan.Scanning) (sh : shade.Shading) (b : Bool) → scan.given (cond b (scan.behind m) (scan.at_stage m (scan_at.Shading sh))) ≡ Some words → words ≡ m.slot
+  field_gives : (m : scan.Scanning) (sh : shade.Shading) (b : Bool) → scan.given (cond b (scan.behind m) (scan.at_stage m (ScanStage.Shading sh))) ≡ Some words → words ≡ m.slot
   field_gives m sh b is = grind arith
 
   shade_gives : (m : scan.Scanning) (sh : shade.Shading) (out : Option Shaded) → scan.given (scan.after_shade m sh out) ≡ Some words → words ≡ m.slot
@@ -48,12 +40,12 @@ module _ (l : Layout) (z : Cycle) (a : ℕ) (s : Shared) (m : scan.Scanning) (fo
   o = scan.object_of m.reference
 
   ends_at : (p : ScanStage) → scan.is_busy p ≡ true → scan_facts.StageFacts z a s nothing m p → scan.given (scan.goes_at l m p found) ≡ Some words → Scans a s o words
-  ends_at scan_at.LoadPage busy f is = absurd cc
-  ends_at scan_at.LoadBitmap busy f is = record { words_are = bits_give words m found (scan.bit_says_pointer found m.at) is ∙ f.0.slot_is; taken = (f.1.has.is_taken o).0 refl }
-  ends_at scan_at.LoadField busy f is = record { words_are = field_gives words m _ (found == 0) is ∙ f.0.slot_is; taken = (f.2.has.is_taken o).0 refl }
-  ends_at (scan_at.Shading sh) busy f is = record { words_are = shade_gives words m (shade.goes sh found) (shade.gives sh found) is ∙ f.0.is_at.slot_is; taken = (f.1.hands.has.is_taken o).0 refl }
-  ends_at (scan_at.FindRoom sh r) busy f is = absurd (room_gives words m sh (room.goes l r found) (room.gives l r found) is)
-  ends_at (scan_at.Ended x) busy f is = absurd cc
+  ends_at ScanStage.LoadPage busy f is = absurd cc
+  ends_at ScanStage.LoadBitmap busy f is = record { words_are = bits_give words m found (scan.bit_says_pointer found m.at) is ∙ f.0.slot_is; taken = (f.1.has.is_taken o).0 refl }
+  ends_at ScanStage.LoadField busy f is = record { words_are = field_gives words m _ (found == 0) is ∙ f.0.slot_is; taken = (f.2.has.is_taken o).0 refl }
+  ends_at (ScanStage.Shading sh) busy f is = record { words_are = shade_gives words m (shade.goes sh found) (shade.gives sh found) is ∙ f.0.is_at.slot_is; taken = (f.1.hands.has.is_taken o).0 refl }
+  ends_at (ScanStage.FindRoom sh r) busy f is = absurd (room_gives words m sh (room.goes l r found) (room.gives l r found) is)
+  ends_at (ScanStage.Ended x) busy f is = absurd cc
 
 -- The states before and behind the step.
 module _ (steps : EachStepGoesByMoves) (z : Cycle) (a : ℕ) (s t : Shared) (good : Good z s) (knows : KnowsObjects z s) (none : NoneBeyond z s) (went : Went z a s t) where
@@ -135,19 +127,19 @@ module _ (steps : EachStepGoesByMoves) (z : Cycle) (a : ℕ) (s t : Shared) (goo
     after_scan m busy f None is g = none_done
     after_scan m busy f (Some words) is g = scans_object (scan.object_of m.reference) words f.known (ends_at z.arena.layout z a s m found words m.stage busy f.stage_is is) (λ taken. let no : None ≡ Some (scan.object_of m.reference) = ((done_with (scan.held_at (scan.goes z.arena.layout m found).held (scan.goes z.arena.layout m found).stage) words g).has.is_taken (scan.object_of m.reference)).1 taken in cc)
 
-    after_global : (i : ℕ) (sh : shade.Shading) → Hands a s (marks.in_hand w.held (ClaimOf i)) → (b : Bool) → Facts (cond b (worker.done_with w w.held 1) (worker.at_stage w (at.Shading sh))) → cond b 1 0 + C s ≤ C t
+    after_global : (i : ℕ) (sh : shade.Shading) → Hands a s (marks.in_hand w.held (ClaimOf i)) → (b : Bool) → Facts (cond b (worker.done_with w w.held 1) (worker.at_stage w (WorkerStage.Shading sh))) → cond b 1 0 + C s ≤ C t
     after_global i sh f true g = claimed_global i ((f.has.is_claimed i).0 refl) (λ is. let no : NoClaim ≡ ClaimOf i = (then.has.is_claimed i).1 is in cc) (λ value is. let no : NoClaim ≡ ReadOf i value = (then.has.is_read i value).1 is in cc) where
       then : Hands a t (marks.in_hand w.held NoClaim)
       then = done_with w.held 1 g
     after_global i sh f false g = none_done
 
     -- a shading that ends, of the value of a global
-    shade_ends : (i : ℕ) (sh : shade.Shading) (held : Option Held) → Hands a t (marks.in_hand held NoClaim) → (p : ShadeStage) → shade.is_busy p ≡ true → Hands a s (shade_facts.in_hand (marks.in_hand None (marks.claim_at i sh.reference p)) sh.held (shade_facts.pending_at (shade.object_of sh.reference) p)) → shade.given (shade.goes_at sh p found) ≡ Some shaded.Done → 1 + C s ≤ C t
-    shade_ends i sh held g shade_at.LoadPage busy f is = absurd cc
-    shade_ends i sh held g (shade_at.SetMark noscan) busy f is = read_global i sh.reference ((f.has.is_read i sh.reference).0 refl) (λ x. let no : NoClaim ≡ ReadOf i sh.reference = (g.has.is_read i sh.reference).1 x in cc)
-    shade_ends i sh held g shade_at.WaitForRoom busy f is = absurd cc
-    shade_ends i sh held g shade_at.Enter busy f is = enters_object (shade.object_of sh.reference) ((f.has.is_pending (shade.object_of sh.reference)).0 refl) (λ x. let no : None ≡ Some (shade.object_of sh.reference) = (g.has.is_pending (shade.object_of sh.reference)).1 x in cc)
-    shade_ends i sh held g shade_at.Ended busy f is = absurd cc
+    shade_ends : (i : ℕ) (sh : shade.Shading) (held : Option Held) → Hands a t (marks.in_hand held NoClaim) → (p : ShadeStage) → shade.is_busy p ≡ true → Hands a s (shade_facts.in_hand (marks.in_hand None (marks.claim_at i sh.reference p)) sh.held (shade_facts.pending_at (shade.object_of sh.reference) p)) → shade.given (shade.goes_at sh p found) ≡ Some Shaded.Done → 1 + C s ≤ C t
+    shade_ends i sh held g ShadeStage.LoadPage busy f is = absurd cc
+    shade_ends i sh held g (ShadeStage.SetMark noscan) busy f is = read_global i sh.reference ((f.has.is_read i sh.reference).0 refl) (λ x. let no : NoClaim ≡ ReadOf i sh.reference = (g.has.is_read i sh.reference).1 x in cc)
+    shade_ends i sh held g ShadeStage.WaitForRoom busy f is = absurd cc
+    shade_ends i sh held g ShadeStage.Enter busy f is = enters_object (shade.object_of sh.reference) ((f.has.is_pending (shade.object_of sh.reference)).0 refl) (λ x. let no : None ≡ Some (shade.object_of sh.reference) = (g.has.is_pending (shade.object_of sh.reference)).1 x in cc)
+    shade_ends i sh held g ShadeStage.Ended busy f is = absurd cc
 
     after_shade : (i : ℕ) (sh : shade.Shading) → shade.is_busy sh.stage ≡ true → shade_facts.Facts z a s (marks.in_hand None (marks.claim_at i sh.reference sh.stage)) sh → (out : Option Shaded) → shade.gives sh found ≡ out → Facts (worker.after_shade w (shade.goes sh found) out) → shading_word out + C s ≤ C t
     after_shade i sh busy f out is g = grind (arith, done_with, none_done, shade_ends)

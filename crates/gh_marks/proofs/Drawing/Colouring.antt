@@ -1,25 +1,15 @@
 -- The moves of marking that colour an object.
 use Rattle.std.proofs.Common.{◌≡◌, ◌≢◌, ℕ, ◌+◌, ◌<◌, ◌≤◌, true, arith, refl, sym, ◌∙◌, ap, inl, inr, subst, Some, None}
-use Rattle.gh_base.specs.declared.cell.Cell.TheVariants as cell
-use Rattle.gh_base.specs.Rows.{Row, mark_words}
-use Rattle.gh_heap.specs.Moves.{update}
-use Rattle.gh_tri.specs.declared.Colour.{Colour as Shade}
-use Rattle.gh_tri.specs.declared.Colour.TheVariants as shade
+use Rattle.gh_marks.proofs.Vocabulary.{Black, Blacken, Cell, Cycle, Goes, Good, IsClean, IsDrawn, IsPointer, mark_words, May, Move, moved, moves, NilOrMarked, Pending, put1, Row, shade_of, shaded, ShadeFlat, Shades, Shared, Shows, stays, Tricolour, update, White}
+use Rattle.gh_tri.specs.declared.Colour.{Colour as Shade, Colour}
 use Rattle.gh_tri.specs.declared.Move.TheVariants as tri
-use Rattle.gh_tri.specs.Steps.{Goes, moves, stays}
-use Rattle.gh_tri.specs.Tricolour.{Tricolour, NilOrMarked, put1, shaded}
-use Rattle.gh_marks.specs.Colours.{Black, Cycle, IsClean, IsPointer, Pending, Shared, White}
-use Rattle.gh_marks.specs.Good.{Good}
-use Rattle.gh_marks.specs.Moves.{Blacken, May, Move, Shade as Shades, ShadeFlat, moved}
-use Rattle.gh_marks.specs.Picture.{IsDrawn}
-use Rattle.gh_marks.specs.Shows.{Shows, shade_of}
 use Rattle.gh_marks.proofs.Bits.{two-ways, white-colour}
 use Rattle.gh_marks.proofs.Drawing.Reading.{clean-marked, named-nothing, pointer-none, pointer-tells, value-field}
 use Rattle.gh_marks.proofs.Drawing.Runs.{filled-other, filled_to, goes-black}
 use Rattle.gh_marks.proofs.Drawing.Showing.{shows-coloured, shows-still}
 
 -- a white object is shaded
-white-shaded : (colour : ℕ → Shade) (n : ℕ) → colour n ≡ shade.White → shaded colour (Some n) ≡ put1 colour n shade.Grey
+white-shaded : (colour : ℕ → Shade) (n : ℕ) → colour n ≡ Colour.White → shaded colour (Some n) ≡ put1 colour n Colour.Grey
 white-shaded colour n white = grind arith
 
 module _ (z : Cycle) (a : ℕ) (s : Shared) (at : Row) (p : Tricolour) (room : ℕ) (g : Good z s) (sh : Shows z s at p) (fits : p.objects + (room + 1) ≤ p.limit) where
@@ -32,7 +22,7 @@ module _ (z : Cycle) (a : ℕ) (s : Shared) (at : Row) (p : Tricolour) (room : �
       let t = moved z a s (Shades o) in
       let was : s.colour o ≡ White = white-colour (mark_words s.words) s.colour g.marks o may.0.white in
       record {
-        picture = record p { colour = put1 p.colour n.0 shade.Grey };
+        picture = record p { colour = put1 p.colour n.0 Colour.Grey };
         at = at;
         goes = subst (λ (c : ℕ → Shade). Goes p (record p { colour = c })) (white-shaded p.colour n.0 (sh.colours n.0 n.1 n.2 ∙ ap shade_of (ap s.colour n.3 ∙ was))) (moves p (tri.Shade n.0) stays n.2);
         shows = shows-coloured z (record s { words = t.words }) at p
@@ -46,7 +36,7 @@ module _ (z : Cycle) (a : ℕ) (s : Shared) (at : Row) (p : Tricolour) (room : �
   blacken t o shows known same clean =
       let n = sh.numbers.all o known in
       record {
-        picture = record p { colour = put1 p.colour n.0 shade.Black; scanned = filled_to true p.scanned n.0 p.fields };
+        picture = record p { colour = put1 p.colour n.0 Colour.Black; scanned = filled_to true p.scanned n.0 p.fields };
         at = at;
         goes = goes-black p n.0 n.2 (clean n.0 n.1 n.2 n.3);
         shows = shows-coloured z t at p shows o Black n.0 (filled_to true p.scanned n.0 p.fields) n.1 n.2 n.3 (λ i. filled-other true p.scanned n.0 p.fields 0 i (other n.0 n.1));
@@ -73,6 +63,6 @@ module _ (z : Cycle) (a : ℕ) (s : Shared) (at : Row) (p : Tricolour) (room : �
     clean : (n : ℕ) → 0 < n → n < p.objects → at n ≡ o → (f : ℕ) → f < p.fields → NilOrMarked p (p.value n f)
     clean n some below e f l = elim (pointer-tells s.extents (at n) f) [
       | inl y ↦ clean-marked z s at p sh g.marks (p.value n f) _ (value-field z s at p sh n f some below y.1)
-          (subst (λ x. IsClean (mark_words s.words) (s.words (cell.Field (x + f)))) (sym e) (may.1 f (subst (λ x. IsPointer s.extents x f) e y.1)))
+          (subst (λ x. IsClean (mark_words s.words) (s.words (Cell.Field (x + f)))) (sym e) (may.1 f (subst (λ x. IsPointer s.extents x f) e y.1)))
       | inr x ↦ (λ w h. let none : p.value n f ≡ None = named-nothing at p.objects (p.value n f) _ (sh.fields n f some below) (pointer-none s (at n) f x.1) in cc)
     ]

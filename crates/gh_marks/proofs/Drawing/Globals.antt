@@ -1,18 +1,7 @@
 -- The scan of a global. Once all are scanned the globals are black in the picture.
 use Rattle.std.proofs.Common.{◌≡◌, ℕ, zero, suc, ◌+◌, ◌<◌, ◌≤◌, Bool, true, false, arith, refl, sym, ◌∙◌, ap, inl, inr, ◌⊎◌, subst, None}
-use Rattle.std.proofs.lemmas.Bool.Decides.{eqb_tells}
-use Rattle.std.proofs.lemmas.Bool.{cases_lt}
-use Rattle.gh_base.specs.declared.cell.Cell.TheVariants as cell
-use Rattle.gh_base.specs.Rows.{Row, mark_words}
-use Rattle.gh_heap.specs.Moves.{update}
-use Rattle.gh_tri.specs.declared.Colour.TheVariants as shade
-use Rattle.gh_tri.specs.Steps.{stays}
-use Rattle.gh_tri.specs.Tricolour.{Tricolour, NilOrMarked, put1, put2}
-use Rattle.gh_marks.specs.Colours.{Cycle, IsClean, Progress, Scanned, Shared}
-use Rattle.gh_marks.specs.Good.{Good}
-use Rattle.gh_marks.specs.Moves.{May, ScanGlobal, moved}
-use Rattle.gh_marks.specs.Picture.{IsDrawn}
-use Rattle.gh_marks.specs.Shows.{Shows, is_scanned}
+use Rattle.gh_marks.proofs.Vocabulary.{cases_lt, Cell, Cycle, eqb_tells, Good, is_scanned, IsClean, IsDrawn, mark_words, May, moved, NilOrMarked, Progress, put1, put2, Row, ScanGlobal, Scanned, Shared, Shows, stays, Tricolour, update}
+use Rattle.gh_tri.specs.declared.Colour.{Colour}
 use Rattle.gh_marks.proofs.Drawing.Reading.{clean-marked, global-none, named-nothing, value-global}
 use Rattle.gh_marks.proofs.Drawing.Runs.{filled-at, filled_to, goes-black, goes-scanned}
 use Rattle.gh_marks.proofs.Drawing.Saying.{the-picture-says}
@@ -45,7 +34,7 @@ module _ (z : Cycle) (a : ℕ) (s : Shared) (at : Row) (p : Tricolour) (room : �
   within : (f : ℕ) → f < z.arena.layout.globals → f < p.fields
   within f l = omega (arith, sh.globals_fit)
 
-  clean-global : (f : ℕ) → f < z.arena.layout.globals → IsClean (mark_words s.words) (s.words (cell.Global f)) → NilOrMarked p (p.value 0 f)
+  clean-global : (f : ℕ) → f < z.arena.layout.globals → IsClean (mark_words s.words) (s.words (Cell.Global f)) → NilOrMarked p (p.value 0 f)
   clean-global f l clean = clean-marked z s at p sh g.marks (p.value 0 f) _ (value-global z s at p sh f l) clean
 
   -- some global is left
@@ -80,14 +69,14 @@ module _ (z : Cycle) (a : ℕ) (s : Shared) (at : Row) (p : Tricolour) (room : �
     clean f l = elim (cases_lt f z.arena.layout.globals) [
       | inr le ↦ (λ w e. let none : p.value 0 f ≡ None = named-nothing at p.objects (p.value 0 f) _ (sh.globals f) (global-none z s f le) in cc)
       | inl below ↦ elim (eqb_tells i f) [
-        | inl y ↦ clean-global f below (subst (λ j. IsClean (mark_words s.words) (s.words (cell.Global j))) y.1 may.1)
+        | inl y ↦ clean-global f below (subst (λ j. IsClean (mark_words s.words) (s.words (Cell.Global j))) y.1 may.1)
         | inr n ↦ clean-global f below ((the-picture-says z s g).globals f below (is-scanned (s.progress f) (rw (n.0) at (all f below))))
       ]
     ]
 
     all-done : IsDrawn z (moved z a s (ScanGlobal i value)) p room
     all-done = record {
-      picture = record p { colour = put1 p.colour 0 shade.Black; scanned = filled_to true p.scanned 0 p.fields };
+      picture = record p { colour = put1 p.colour 0 Colour.Black; scanned = filled_to true p.scanned 0 p.fields };
       at = at;
       goes = goes-black p 0 sh.numbers.some clean;
       shows = record {
@@ -108,7 +97,7 @@ module _ (z : Cycle) (a : ℕ) (s : Shared) (at : Row) (p : Tricolour) (room : �
       };
       room_left = omega arith;
     } where
-      other : (n : ℕ) → 0 < n → put1 p.colour 0 shade.Black n ≡ p.colour n
+      other : (n : ℕ) → 0 < n → put1 p.colour 0 Colour.Black n ≡ p.colour n
       other n some = elim (eqb_tells 0 n) [ inl y ↦ absurd (omega (arith, y.1)) | inr x ↦ rw (x.0) refl ]
 
   -- what is no global of the layout is nothing in the picture

@@ -1,13 +1,7 @@
 -- How each move of marking is drawn.
 use Rattle.std.proofs.Common.{ℕ, ◌+◌, ◌≤◌, arith}
-use Rattle.gh_base.specs.Rows.{Row}
-use Rattle.gh_tri.specs.Tricolour.{Tricolour}
-use Rattle.gh_marks.specs.Colours.{Cycle, Shared}
-use Rattle.gh_marks.specs.Good.{Good}
-use Rattle.gh_marks.specs.Laws.{EachMoveKeeps}
-use Rattle.gh_marks.specs.Picture.{EachMoveIsDrawn, EachStepIsDrawn, IsDrawn, many}
-use Rattle.gh_marks.specs.Shows.{Shows}
-use Rattle.gh_marks.specs.Moves.{Blacken, May, Went, ClaimGlobal, EndStack, Enter, GiveBuffer, PassGlobals, Place, PutField, PutGlobal, Quiet, ReadGlobal, Reserve, ScanGlobal, ScanStack, SetRegister, Shade, ShadeAgain, ShadeFlat, TakeBuffer, TakeEntry, goes, moved, stays}
+use Rattle.gh_marks.proofs.Vocabulary.{Blacken, ClaimGlobal, Cycle, EachMoveIsDrawn, EachMoveKeeps, EachStepIsDrawn, EndStack, Enter, GiveBuffer, goes, Good, IsDrawn, many, May, moved, PassGlobals, Place, PutField, PutGlobal, Quiet, ReadGlobal, Reserve, Row, ScanGlobal, ScanStack, SetRegister, Shade, ShadeAgain, ShadeFlat, Shared, Shows, TakeBuffer, TakeEntry, Tricolour, Went}
+use Rattle.gh_marks.specs.Moves.{stays}
 use Rattle.gh_marks.proofs.Drawing.Still.{again-drawn, claim-drawn, enter-drawn, give_buffer-drawn, pass-drawn, quiet-drawn, read-drawn, reserve-drawn, take_buffer-drawn, take_entry-drawn}
 use Rattle.gh_tri.specs.Steps as tri
 use Rattle.gh_marks.proofs.Drawing.Runs.{goes-then}

@@ -1,14 +1,8 @@
 -- What a picture says of the state that it shows.
-use Rattle.std.proofs.Common.{◌≡◌, ℕ, zero, suc, ◌+◌, ◌<◌, ◌≤◌, Bool, true, false, arith, refl, ap, ◌⊎◌, subst, Option, Some, None}
-use Rattle.std.specs.Prelude.{◌*◌, ◌&&◌, not, nat_lt}
-use Rattle.gh_base.specs.declared.cell.Cell.TheVariants as cell
-use Rattle.gh_base.specs.Rows.{Row, mark_words}
+use Rattle.std.proofs.Common.{◌≡◌, ℕ, zero, suc, ◌+◌, ◌<◌, ◌≤◌, Bool, true, false, arith, refl, ap, ◌⊎◌, subst, Option, Some, None, ◌*◌, ◌&&◌, not, nat_lt}
+use Rattle.gh_marks.proofs.Vocabulary.{Cell, Colour, Cycle, Extents, global_at, GlobalWaits, is_scanned, IsClean, IsGrey, IsMarked, IsPointer, IsSince, mark_of, mark_words, MarksGood, Names, NilOrMade, NilOrMarked, nothing, Numbers, object, pointer_at, Progress, Row, shade_of, Shared, Shows, Tricolour}
 use Rattle.gh_tri.specs.declared.Colour.TheVariants as shade
-use Rattle.gh_tri.specs.Tricolour.{Tricolour, NilOrMade, NilOrMarked}
 use Rattle.gh_tri.specs.Tricolour as tri
-use Rattle.gh_marks.specs.Colours.{Colour, Cycle, Extents, IsClean, IsGrey, IsMarked, IsPointer, IsSince, Progress, Shared, GlobalWaits, mark_of}
-use Rattle.gh_marks.specs.Good.{MarksGood}
-use Rattle.gh_marks.specs.Shows.{Names, Numbers, Shows, global_at, is_scanned, nothing, object, pointer_at, shade_of}
 
 -- ---- tests
 
@@ -56,7 +50,7 @@ is_pointer e o k = nat_lt k (e.size o) && (e.pointer o k && not (e.noscan o))
 pub pointer-tells : (e : Extents) (o k : ℕ) → ((is_pointer e o k ≡ true) × IsPointer e o k) ⊎ ((is_pointer e o k ≡ false) × ¬ IsPointer e o k)
 pointer-tells e o k = grind arith
 
-pub pointer-word : (s : Shared) (o k : ℕ) → IsPointer s.extents o k → pointer_at s o k ≡ s.words (cell.Field (o + k))
+pub pointer-word : (s : Shared) (o k : ℕ) → IsPointer s.extents o k → pointer_at s o k ≡ s.words (Cell.Field (o + k))
 pointer-word s o k l = grind arith
 
 pub pointer-none : (s : Shared) (o k : ℕ) → ¬ IsPointer s.extents o k → pointer_at s o k ≡ 0
@@ -65,7 +59,7 @@ pointer-none s o k l = grind arith
 pub pointer-some : (s : Shared) (o k w : ℕ) → pointer_at s o k ≡ w + 1 → IsPointer s.extents o k
 pointer-some s o k w e = grind arith
 
-pub global-word : (z : Cycle) (s : Shared) (i : ℕ) → i < z.arena.layout.globals → global_at z s i ≡ s.words (cell.Global i)
+pub global-word : (z : Cycle) (s : Shared) (i : ℕ) → i < z.arena.layout.globals → global_at z s i ≡ s.words (Cell.Global i)
 global-word z s i l = grind arith
 
 pub global-none : (z : Cycle) (s : Shared) (i : ℕ) → z.arena.layout.globals ≤ i → global_at z s i ≡ 0
@@ -74,10 +68,10 @@ global-none z s i l = grind arith
 -- ---- the picture
 
 module _ (z : Cycle) (s : Shared) (at : Row) (p : Tricolour) (sh : Shows z s at p) where
-  pub value-global : (i : ℕ) → i < z.arena.layout.globals → Names at p.objects (p.value 0 i) (s.words (cell.Global i))
+  pub value-global : (i : ℕ) → i < z.arena.layout.globals → Names at p.objects (p.value 0 i) (s.words (Cell.Global i))
   value-global i l = grind arith
 
-  pub value-field : (n k : ℕ) → 0 < n → n < p.objects → IsPointer s.extents (at n) k → Names at p.objects (p.value n k) (s.words (cell.Field (at n + k)))
+  pub value-field : (n k : ℕ) → 0 < n → n < p.objects → IsPointer s.extents (at n) k → Names at p.objects (p.value n k) (s.words (Cell.Field (at n + k)))
   value-field n k some below l = grind arith
 
   -- a pointer field is a field of the picture

@@ -1,16 +1,6 @@
 -- The stores of marking, behind the write barrier.
-use Rattle.std.proofs.Common.{◌≡◌, ℕ, ◌+◌, ◌-◌, ◌<◌, ◌≤◌, Bool, true, false, arith, refl, sym, ap, cond, eqb, inl, inr, ◌⊎◌, subst, Option}
-use Rattle.std.specs.Prelude.{◌==◌, ◌&&◌, nat_lt}
-use Rattle.std.proofs.lemmas.Bool.Decides.{eqb_tells, nat_tests}
-use Rattle.gh_base.specs.declared.cell.Cell.TheVariants as cell
-use Rattle.gh_base.specs.Rows.{Row, mark_words}
-use Rattle.gh_tri.specs.Steps.{stays}
-use Rattle.gh_tri.specs.Tricolour.{Tricolour, IsField, NilOrMarked, put2}
-use Rattle.gh_marks.specs.Colours.{Cycle, IsClean, IsPointer, Shared}
-use Rattle.gh_marks.specs.Good.{Good}
-use Rattle.gh_marks.specs.Moves.{May, PutField, PutGlobal, moved}
-use Rattle.gh_marks.specs.Picture.{IsDrawn}
-use Rattle.gh_marks.specs.Shows.{Names, Shows, global_at, pointer_at}
+use Rattle.std.proofs.Common.{◌≡◌, ℕ, ◌+◌, ◌-◌, ◌<◌, ◌≤◌, Bool, true, false, arith, refl, sym, ap, cond, eqb, inl, inr, ◌⊎◌, subst, Option, ◌==◌, ◌&&◌, nat_lt}
+use Rattle.gh_marks.proofs.Vocabulary.{Cell, Cycle, eqb_tells, global_at, Good, IsClean, IsDrawn, IsField, IsPointer, mark_words, May, moved, Names, nat_tests, NilOrMarked, pointer_at, put2, PutField, PutGlobal, Row, Shared, Shows, stays, Tricolour}
 use Rattle.gh_marks.proofs.Drawing.Reading.{clean-marked, is_pointer, lt-tells, names-made, numbered, value-field, value-global, within-fields}
 use Rattle.gh_marks.proofs.Drawing.Runs.{goes-store, goes-stores, stored_to}
 use Rattle.gh_marks.proofs.Drawing.Showing.{shows-still, shows-stored}
@@ -46,7 +36,7 @@ module _ (z : Cycle) (a : ℕ) (s : Shared) (at : Row) (p : Tricolour) (room : �
           | inl t ↦ (
             record { made = below; within = within-fields z s at p sh n (x - at n) some.1 below t.1.pointer },
             clean-marked z s at p sh g.marks (p.value n (x - at n)) _ (value-field z s at p sh n (x - at n) some.1 below t.1.pointer)
-                (subst (λ y. IsClean (mark_words s.words) (s.words (cell.Field y))) (sym t.1.word) may.old),
+                (subst (λ y. IsClean (mark_words s.words) (s.words (Cell.Field y))) (sym t.1.word) may.old),
           )
         ]
       ] where
@@ -81,7 +71,7 @@ module _ (z : Cycle) (a : ℕ) (s : Shared) (at : Row) (p : Tricolour) (room : �
       shows = shows-still z s at p sh (moved z a s (PutGlobal i value)).words s.colour s.filled s.progress s.passed (λ q k j l. refl) same (λ h. refl) (λ q known. refl) (λ j. refl);
       room_left = omega arith;
     } where
-      same : (j : ℕ) → j < z.arena.layout.globals → cond (eqb i j) value (s.words (cell.Global j)) ≡ s.words (cell.Global j)
+      same : (j : ℕ) → j < z.arena.layout.globals → cond (eqb i j) value (s.words (Cell.Global j)) ≡ s.words (Cell.Global j)
       same j l = elim (eqb_tells i j) [ inl y ↦ absurd (omega (arith, y.1)) | inr n ↦ rw (n.0) refl ]
 
     put-globals : i < z.arena.layout.globals → (j : ℕ) → Names at p.objects (put2 p.value 0 i named_global.0 0 j) (global_at z (moved z a s (PutGlobal i value)) j)

@@ -1,24 +1,20 @@
 -- Each step of the whole processor is one of the handshake of a stop: by its tasks.
-use Rattle.std.proofs.Common.{◌≡◌, ℕ, Bool, true, false, cond, List, refl, ap, ◌∙◌, Option, Some, None, arith}
-use Rattle.std.specs.Prelude.{is_none}
+use Rattle.std.proofs.Common.{◌≡◌, ℕ, Bool, true, false, cond, List, refl, ap, ◌∙◌, Option, Some, None, arith, is_none}
+use Rattle.std.proofs.lemmas.List.{length-set}
+use Rattle.gh_mutator.proofs.Vocabulary.{Acts, after_assist, after_gc, after_leave, after_place, after_poll, after_search, after_wait, applied, asks_at, Assist, Assisting, Awake, begins, cache_span, cache_with, CachedSpan, Ends, follows, Found, GoesOn, has_left_at, is_busy_at, IsQuietInHandshake, keeping, Large, Layout, LeavesOn, Leaving, makes, MarkingIsQuiet, Name, NewStage, Op, party_at, party_of, Place, PlaceBegins, Placing, Polling, Processor, ProcessorInHandshake, ProcessorIsQuiet, register_of, Search, Seeking, Shape, Small, Sought, SoundAt, SoundPlace, span_index, stage_at, StageGoes, Step, takes, takes_at, Task, Then, Value, Wait, Waiting, WaitState, Want, Wanted}
 use Rattle.gh_alloc.specs.Search as search
 use Rattle.gh_alloc.specs.Place as place
 use Rattle.gh_assist.specs.Listing as assist
-use Rattle.gh_mutator.specs.declared.task.Task.TheVariants as task
 use Rattle.gh_mutator.specs.Global as global
 use Rattle.gh_poll.specs.Handshake.{HasPlaces, knower, LeavesInHandshake, PollsInHandshake, PollsOn, SoundWait, wait_stage_of, waiter_of, WaitsInHandshake}
 use Rattle.gh_poll.specs.Leave as leave
 use Rattle.gh_mutator.specs.Load as load
 use Rattle.gh_poll.specs.Poll as poll
-use Rattle.gh_mutator.specs.Processor.{keeping}
-use Rattle.gh_mutator.specs.ProcessorPlaces.{LeavesOn, party_of, SoundPlace, stage_of}
+use Rattle.gh_mutator.specs.ProcessorPlaces.{stage_of}
 use Rattle.gh_mutator.specs.Register as register
 use Rattle.gh_mutator.specs.Store as store
-use Rattle.gh_mutator.specs.Vocabulary.{Polling}
 use Rattle.gh_poll.specs.Wait as wait
-use Rattle.gh_mutator.proofs.Vocabulary.{after_assist, Assist, Assisting, Name, Acts, after_gc, after_leave, after_place, after_poll, after_search, after_wait, applied, asks_at, Awake, begins, cache_span, cache_with, CachedSpan, Ends, follows, Found, GoesOn, has_left_at, is_busy_at, IsQuietInHandshake, Large, Leaving, length-set, makes, MarkingIsQuiet, NewStage, Op, party_at, Place, PlaceBegins, Placing, Processor, ProcessorInHandshake, ProcessorIsQuiet, register_of, Search, Seeking, Shape, Small, Sought, SoundAt, span_index, stage_at, StageGoes, Step, takes, takes_at, Task, Then, Value, Wait, Waiting, WaitState, Wanted, Want}
 use Rattle.gh_mutator.proofs.Shaking.Acknowledging.{acks}
-use Rattle.gh_base.specs.declared.layout.Layout.{Layout}
 
 -- a step at this task leads here
 record Goes (l : Layout) (found : ℕ) (m : Processor) (t : Task) (to : Processor) : Type 0 where
@@ -40,7 +36,7 @@ record Plain (t : Task) : Type 0 where
   party : (p : Polling) → party_at p t ≡ knower p
   stage : (p : Polling) → stage_at p t ≡ Awake
 
-idle_plain : Plain task.Idle
+idle_plain : Plain Task.Idle
 idle_plain = record { sound = λ p. tt; party = λ p. refl; stage = λ p. refl }
 
 lands : (m to : Processor) → HasPlaces to.poll.local.cache → knower to.poll ≡ knower m.poll → Plain to.task → Lands m to
@@ -57,19 +53,19 @@ applied_lands {S} into m n g d step has same plain = by step.sets step.then wher
   by None then = lands m _ has same (follows_plain then)
   by (Some v) then = lands m _ has same (follows_plain then)
 
-load_plain : (x : _) → Plain (task.Load x)
+load_plain : (x : _) → Plain (Task.Load x)
 load_plain x = record { sound = λ p. tt; party = λ p. refl; stage = λ p. refl }
 
-store_plain : (x : _) → Plain (task.Store x)
+store_plain : (x : _) → Plain (Task.Store x)
 store_plain x = record { sound = λ p. tt; party = λ p. refl; stage = λ p. refl }
 
-global_plain : (x : _) → Plain (task.Global x)
+global_plain : (x : _) → Plain (Task.Global x)
 global_plain x = record { sound = λ p. tt; party = λ p. refl; stage = λ p. refl }
 
-register_plain : (x : _) → Plain (task.Register x)
+register_plain : (x : _) → Plain (Task.Register x)
 register_plain x = record { sound = λ p. tt; party = λ p. refl; stage = λ p. refl }
 
-search_plain : (w : Wanted) (waited : Bool) (s : Seeking) → Plain (task.New (record { wanted = w; stage = Search waited s }))
+search_plain : (w : Wanted) (waited : Bool) (s : Seeking) → Plain (Task.New (record { wanted = w; stage = Search waited s }))
 search_plain w waited s = record { sound = λ p. tt; party = λ p. refl; stage = λ p. refl }
 
 make_plain : (w : Wanted) (p : Placing) → Plain (makes w p)
@@ -101,24 +97,24 @@ module _ (l : Layout) (q : ProcessorIsQuiet) (k : MarkingIsQuiet) (h : PollsInHa
       record { has = ((v.keeps l).stays_sound x found s busy).0; goes = rw (← last.0, ← last.1) ((v.keeps l).goes x found s busy) }
 
   gc_goes : (found : ℕ) (m : Processor) (g : ℕ) (x : WaitState) → SoundWait (wait.waiting x m.poll) → wait.is_busy x.stage ≡ true → (out : Option (Unit {0})) → wait.gives l (wait.waiting x m.poll) found ≡ out →
-      Goes l found m (task.Gc g x) (after_gc m g (wait.goes l (wait.waiting x m.poll) found) out)
+      Goes l found m (Task.Gc g x) (after_gc m g (wait.goes l (wait.waiting x m.poll) found) out)
   gc_goes found m g x s busy None e = let t = (v.keeps l).stays_sound (wait.waiting x m.poll) found s busy in record { sound = (t.0, (t, ap is_none e)); goes = (v.keeps l).goes (wait.waiting x m.poll) found s busy }
   gc_goes found m g x s busy (Some u) e = let woken = wakes found (wait.waiting x m.poll) s busy u e in record { sound = (woken.has, tt); goes = woken.goes }
 
   wait_goes : (found : ℕ) (m : Processor) (w : Wanted) (x : WaitState) → SoundWait (wait.waiting x m.poll) → wait.is_busy x.stage ≡ true → (out : Option (Unit {0})) → wait.gives l (wait.waiting x m.poll) found ≡ out →
-      Goes l found m (task.New (record { wanted = w; stage = Wait x })) (after_wait m w (wait.goes l (wait.waiting x m.poll) found) out)
+      Goes l found m (Task.New (record { wanted = w; stage = Wait x })) (after_wait m w (wait.goes l (wait.waiting x m.poll) found) out)
   wait_goes found m w x s busy None e = let t = (v.keeps l).stays_sound (wait.waiting x m.poll) found s busy in record { sound = (t.0, (t, ap is_none e)); goes = (v.keeps l).goes (wait.waiting x m.poll) found s busy }
   wait_goes found m w x s busy (Some u) e = let woken = wakes found (wait.waiting x m.poll) s busy u e in record { sound = (woken.has, tt); goes = woken.goes }
 
-  poll_goes : (found : ℕ) (m : Processor) → PollsOn m.poll → (out : Option (Unit {0})) → poll.gives l m.poll found ≡ out → Goes l found m task.Poll (after_poll m (poll.goes l m.poll found) out)
+  poll_goes : (found : ℕ) (m : Processor) → PollsOn m.poll → (out : Option (Unit {0})) → poll.gives l m.poll found ≡ out → Goes l found m Task.Poll (after_poll m (poll.goes l m.poll found) out)
   poll_goes found m s None e = let t = (h.keeps l).stays_sound m.poll found s.sound s.busy in record { sound = (t.0, record { busy = ap is_none e; sound = t }); goes = (h.keeps l).goes m.poll found s.sound s.busy }
   poll_goes found m s (Some u) e = let last = h.ends (poll.goes l m.poll found) (ap is_none e) in record { sound = (((h.keeps l).stays_sound m.poll found s.sound s.busy).0, tt); goes = rw (← last.0, ← last.1) ((h.keeps l).goes m.poll found s.sound s.busy) }
 
-  leave_goes : (found : ℕ) (m : Processor) (x : Leaving) → HasPlaces m.poll.local.cache → LeavesOn m.poll x → (out : Option (Unit {0})) → leave.gives x found ≡ out → Goes l found m (task.Leave x) (after_leave m (leave.goes x found) out)
+  leave_goes : (found : ℕ) (m : Processor) (x : Leaving) → HasPlaces m.poll.local.cache → LeavesOn m.poll x → (out : Option (Unit {0})) → leave.gives x found ≡ out → Goes l found m (Task.Leave x) (after_leave m (leave.goes x found) out)
   leave_goes found m x has s out e = grind arith
 
   module _ (shapes : List Shape) where
-    new_goes : (found : ℕ) (m : Processor) (w : Wanted) (s : NewStage) → HasPlaces m.poll.local.cache → SoundAt m.poll (task.New (record { wanted = w; stage = s })) → Goes l found m (task.New (record { wanted = w; stage = s })) (takes_at l shapes m (task.New (record { wanted = w; stage = s })) found)
+    new_goes : (found : ℕ) (m : Processor) (w : Wanted) (s : NewStage) → HasPlaces m.poll.local.cache → SoundAt m.poll (Task.New (record { wanted = w; stage = s })) → Goes l found m (Task.New (record { wanted = w; stage = s })) (takes_at l shapes m (Task.New (record { wanted = w; stage = s })) found)
     new_goes found m w (Search waited s) has sound = awake l found m _ _ refl refl (q.searches l s) (search_lands shapes m w waited (search.goes l s found) (search.goes l s found).find.cached (search.gives l s found) has)
     new_goes found m w (Wait x) has sound = wait_goes found m w x sound.0 sound.1 (wait.gives l (wait.waiting x m.poll) found) refl
     new_goes found m w (Want n) has sound = awake l found m _ _ refl refl tt (lands m _ has refl idle_plain)
@@ -126,17 +122,17 @@ module _ (l : Layout) (q : ProcessorIsQuiet) (k : MarkingIsQuiet) (h : PollsInHa
     new_goes found m w (Place p) has sound = awake l found m _ _ refl refl (q.makes l p) (place_lands m w (place.makes_its_object p) p.at (place.goes p found) has)
 
     goes_at : (found : ℕ) (m : Processor) (t : Task) → HasPlaces m.poll.local.cache → SoundAt m.poll t → is_busy_at t ≡ true → Goes l found m t (takes_at l shapes m t found)
-    goes_at found m task.Idle has s busy = absurd cc
-    goes_at found m task.Left has s busy = absurd cc
-    goes_at found m (task.Load x) has s busy = awake l found m _ _ refl refl (q.loads l x) (applied_lands task.Load m m x.g x.d (load.step l x found) has refl load_plain)
-    goes_at found m (task.Store x) has s busy = awake l found m _ _ refl refl (q.stores l (register_of m x.g x.v) x) (applied_lands task.Store m (keeping m (store.held_behind l m.poll.local.held x.stage found)) x.g x.v (store.step l m.poll.local (register_of m x.g x.v) x found) has refl store_plain)
-    goes_at found m (task.Global x) has s busy = awake l found m _ _ refl refl (q.globals l (register_of m x.g x.r) x) (applied_lands task.Global m (keeping m (global.held_behind l m.poll.local.held x.stage found)) x.g x.r (global.step l (register_of m x.g x.r) x found) has refl global_plain)
-    goes_at found m (task.Register x) has s busy = awake l found m _ _ refl refl (q.registers x) (applied_lands task.Register m m x.g x.d (register.step (register_of m x.g (register.read_of x)) x) has refl register_plain)
-    goes_at found m (task.New x) has s busy = new_goes found m x.wanted x.stage has s
-    goes_at found m (task.Gc g x) has s busy = gc_goes found m g x s.0 s.1 (wait.gives l (wait.waiting x m.poll) found) refl
-    goes_at found m task.Poll has s busy = poll_goes found m s (poll.gives l m.poll found) refl
-    goes_at found m (task.End g) has s busy = awake l found m _ _ refl refl tt (lands m _ has refl idle_plain)
-    goes_at found m (task.Leave x) has s busy = leave_goes found m x has s (leave.gives x found) refl
+    goes_at found m Task.Idle has s busy = absurd cc
+    goes_at found m Task.Left has s busy = absurd cc
+    goes_at found m (Task.Load x) has s busy = awake l found m _ _ refl refl (q.loads l x) (applied_lands Task.Load m m x.g x.d (load.step l x found) has refl load_plain)
+    goes_at found m (Task.Store x) has s busy = awake l found m _ _ refl refl (q.stores l (register_of m x.g x.v) x) (applied_lands Task.Store m (keeping m (store.held_behind l m.poll.local.held x.stage found)) x.g x.v (store.step l m.poll.local (register_of m x.g x.v) x found) has refl store_plain)
+    goes_at found m (Task.Global x) has s busy = awake l found m _ _ refl refl (q.globals l (register_of m x.g x.r) x) (applied_lands Task.Global m (keeping m (global.held_behind l m.poll.local.held x.stage found)) x.g x.r (global.step l (register_of m x.g x.r) x found) has refl global_plain)
+    goes_at found m (Task.Register x) has s busy = awake l found m _ _ refl refl (q.registers x) (applied_lands Task.Register m m x.g x.d (register.step (register_of m x.g (register.read_of x)) x) has refl register_plain)
+    goes_at found m (Task.New x) has s busy = new_goes found m x.wanted x.stage has s
+    goes_at found m (Task.Gc g x) has s busy = gc_goes found m g x s.0 s.1 (wait.gives l (wait.waiting x m.poll) found) refl
+    goes_at found m Task.Poll has s busy = poll_goes found m s (poll.gives l m.poll found) refl
+    goes_at found m (Task.End g) has s busy = awake l found m _ _ refl refl tt (lands m _ has refl idle_plain)
+    goes_at found m (Task.Leave x) has s busy = leave_goes found m x has s (leave.gives x found) refl
 
     goes_on : (m : Processor) (found : ℕ) → SoundPlace m → is_busy_at m.task ≡ true → Goes l found m m.task (takes l shapes m found)
     goes_on m found s busy = grind (arith, goes_at)

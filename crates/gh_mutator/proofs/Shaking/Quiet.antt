@@ -1,14 +1,12 @@
 -- What a processor runs while it is awake writes no word of the handshake: by its stages.
 use Rattle.std.proofs.Common.{arith}
+use Rattle.gh_mutator.proofs.Vocabulary.{Global, GlobalStage, IsQuietInHandshake, Layout, Load, LoadStage, MarkingIsQuiet, ProcessorIsQuiet, Store, StoreStage, Value}
 use Rattle.gh_alloc.specs.Quiet.{AllocationIsQuiet}
 use Rattle.gh_assist.specs.Quiet.{AssistsAreQuiet}
-use Rattle.gh_mutator.specs.declared.load.Load.{Load}
-use Rattle.gh_mutator.specs.declared.store.Store.{Store}
 use Rattle.gh_mutator.specs.Global as global
 use Rattle.gh_mutator.specs.Load as load
 use Rattle.gh_mutator.specs.Store as store
 use Rattle.gh_poll.specs.Quiet.{WhatPollsRunIsQuiet}
-use Rattle.gh_mutator.proofs.Vocabulary.{Global, GlobalStage, IsQuietInHandshake, Layout, LoadStage, MarkingIsQuiet, ProcessorIsQuiet, StoreStage, Value}
 
 loads : (l : Layout) (x : Load) (stage : LoadStage) → IsQuietInHandshake (load.asks_at l x stage)
 loads l x stage = grind arith

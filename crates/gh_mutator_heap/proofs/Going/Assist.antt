@@ -1,21 +1,10 @@
 -- Steps of an assist beside marking: they are made of moves of marking alone, which change no stack. No slot is being filled.
 use Rattle.std.proofs.Common.{◌≡◌, ℕ, Option, refl, subst, arith}
+use Rattle.gh_mutator_heap.proofs.Vocabulary.{after_assist, Answer, Assisting, assists, at_task, cell_of, Cycle, FillsNone, Heap, Held, Keeps, KnowsStacks, MarkFacts, Marking, Name, Processor, stacks_last, StageFacts, Together, Wanted, Words}
 use Rattle.gh_assist.specs.declared.assist.AssistStage.{AssistStage}
-use Rattle.gh_assist.specs.Facts.{Facts, StageFacts}
+use Rattle.gh_assist.specs.Facts.{Facts}
 use Rattle.gh_assist.specs.Listing as assist
-use Rattle.gh_base.specs.declared.held.Held.{Held}
-use Rattle.gh_base.specs.Cells.{Words}
-use Rattle.gh_cycle.specs.Beside.{FillsNone}
-use Rattle.gh_heap.specs.Rights.{Shared as Heap}
-use Rattle.gh_marks.specs.Colours.{Shared as Marking}
-use Rattle.gh_mutator_heap.specs.Beside.{Together}
-use Rattle.gh_poll.specs.MarkFacts.{KnowsStacks, stacks_last}
-use Rattle.gh_mutator.specs.MarkVocabulary.{Cycle, Keeps, Steps}
-use Rattle.gh_mutator.specs.New.{after_assist, assists}
-use Rattle.gh_mutator.specs.Processor.{at_task}
-use Rattle.gh_mutator.specs.ProcessorMarks.{MarkFacts}
-use Rattle.gh_mutator.specs.Vocabulary.{Answer, Assisting, cell_of, Name}
-use Rattle.gh_mutator_heap.specs.Vocabulary.{Processor, Wanted}
+use Rattle.gh_mutator.specs.MarkVocabulary.{Steps}
 use Rattle.gh_mutator_heap.proofs.Going.Known.{by_keeping, Known, StepAt}
 
 -- No slot is being filled.

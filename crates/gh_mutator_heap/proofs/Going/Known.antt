@@ -1,40 +1,12 @@
 -- What a step of a processor comes to beside marking: a deed, by which the state of marking follows the heap; or moves of marking alone. And what is known of its stacks behind it.
-use Rattle.std.proofs.Common.{◌≡◌, ◌≢◌, ℕ, ◌<◌, ◌≤◌, false, [], length, Option, Some, None, refl, sym, ap, subst, ◌∙◌, arith}
-use Rattle.std.specs.Prelude.{slice_index_or}
-use Rattle.gh_assist.specs.Facts.{AssistsByMoves}
-use Rattle.gh_base.specs.declared.cell.Ask.{Ask}
-use Rattle.gh_base.specs.declared.cell.Ask.TheVariants as ask
-use Rattle.gh_base.specs.declared.cell.Cell.{Cell}
-use Rattle.gh_base.specs.declared.cell.Cell.TheVariants as cell
-use Rattle.gh_base.specs.declared.limits.TheConstants.{REGISTERS}
-use Rattle.gh_base.specs.declared.pack.TheConstants.{END}
-use Rattle.gh_base.specs.declared.value.Value.TheVariants as value
-use Rattle.gh_base.specs.Cells.{Words}
-use Rattle.gh_base.specs.Rows.{RowsAreWritten}
-use Rattle.gh_base.specs.Steps.{effect}
-use Rattle.gh_barrier.specs.Facts.{WritesByMoves}
-use Rattle.gh_cycle.specs.Beside.{ClaimedFieldsAreAside, ClaimsSlot, FillsNone, IsBeside, MarkingAloneGoesBeside, ObjectsAreKnownBeside, SlotsAreReserved}
-use Rattle.gh_cycle.specs.Deeds.{Deed, DeedsGoBeside, ever_by, hand_behind, MeetsByDeed}
+use Rattle.std.proofs.Common.{◌≡◌, ◌≢◌, ℕ, ◌<◌, ◌≤◌, false, [], length, Option, Some, None, refl, sym, ap, subst, ◌∙◌, arith, slice_index_or}
+use Rattle.gh_mutator_heap.proofs.Vocabulary.{acted, acts, Answer, AreRegisters, Ask, asks, AssistsByMoves, at_task, Cell, cell_of, ClaimedFieldsAreAside, ClaimsSlot, Cycle, Deed, DeedsGoBeside, DoesPoints, effect, END, Ever, ever_by, EverValue, FillsNone, hand_behind, Hands, Heap, InHand, IsBeside, IsOf, Keeps, KnowsAtAnyTime, KnowsMarking, KnowsStacks, MarkFacts, Marking, MarkingAloneGoesBeside, MarksByMoves, Means, MeetsByDeed, named, ObjectsAreKnownBeside, Place, Processor, REGISTERS, RowsAreWritten, SlotsAreReserved, StepsOn, takes, Task, TaskFacts, Together, Value, view, Words, WritesByMoves}
 use Rattle.gh_cycle.specs.Deeds as deed
 use Rattle.gh_cycle.specs.Opening.{reference_of}
 use Rattle.gh_heap.specs.Moves as heap
-use Rattle.gh_heap.specs.Objects.{Place}
-use Rattle.gh_heap.specs.Rights.{Shared as Heap}
-use Rattle.gh_marks.specs.Colours.{Placing, Shared as Marking}
+use Rattle.gh_marks.specs.Colours.{Placing}
 use Rattle.gh_marks.specs.Laws.{EachHandFollows, EachOwnMoveLeaves}
 use Rattle.gh_marks.specs.Moves as marks
-use Rattle.gh_stack.specs.Facts.{AreRegisters, named}
-use Rattle.gh_mutator_heap.specs.Beside.{KnowsMarking, StepsOn, Together}
-use Rattle.gh_mutator.specs.Deeds.{acted}
-use Rattle.gh_mutator.specs.Listing.{acts, asks, takes}
-use Rattle.gh_poll.specs.MarkFacts.{KnowsStacks}
-use Rattle.gh_mutator.specs.MarkVocabulary.{Cycle, Hands, InHand, Keeps}
-use Rattle.gh_mutator_heap.specs.PollHeap.{KnowsAtAnyTime}
-use Rattle.gh_mutator.specs.Processor.{at_task}
-use Rattle.gh_mutator.specs.ProcessorMarks.{MarkFacts, MarksByMoves, TaskFacts}
-use Rattle.gh_mutator_heap.specs.Runs.{DoesPoints}
-use Rattle.gh_mutator.specs.Vocabulary.{Answer, cell_of, IsOf, Value}
-use Rattle.gh_mutator_heap.specs.Vocabulary.{Ever, EverValue, Means, view, Processor, Task}
 use Rattle.gh_mutator_writes.specs.Writing.{IsWritten, ProcessorWritesItsOwn, StacksAreNoted}
 use Rattle.gh_mutator_heap.proofs.Owning.Parked.{stands_always}
 
@@ -61,7 +33,7 @@ fills_none a u hand none x o is = let some : hand.placing ≡ Some o = (x.has.is
 same_name : (place : Place) (made : ℕ → ℕ) (v : EverValue) (w : Value) → Means place made v w → reference_of place v ≡ named w
 same_name place made v w h = grind arith
 
-some_name : (place : Place) (made : ℕ → ℕ) (v : EverValue) (r : ℕ) → Means place made v (value.Ref r) → 1 ≤ r
+some_name : (place : Place) (made : ℕ → ℕ) (v : EverValue) (r : ℕ) → Means place made v (Value.Ref r) → 1 ≤ r
 some_name place made v r h = grind arith
 
 -- the goroutine goes on
@@ -70,7 +42,7 @@ EndsNone (deed.Ends g) = ⊥
 EndsNone _ = Unit {0}
 
 -- what is not the end of a goroutine writes no word of a stack
-spares_stacks : (z : Cycle) (a : ℕ) (h : Heap) (s : Marking) (step : Ask) (d : Deed) → EndsNone d → MeetsByDeed z a h s step d → (g number : ℕ) → step ≢ ask.Store (cell.Scanned g) number
+spares_stacks : (z : Cycle) (a : ℕ) (h : Heap) (s : Marking) (step : Ask) (d : Deed) → EndsNone d → MeetsByDeed z a h s step d → (g number : ℕ) → step ≢ Ask.Store (Cell.Scanned g) number
 spares_stacks z a h s step deed.Rests on meets g number e = subst (λ (x : Ask). marks.IsQuietInMarking s x) e meets.0
 spares_stacks z a h s step (deed.Sets i d v) on meets g number e = subst (λ (x : Ask). marks.IsQuietInMarking s x) e meets.0
 spares_stacks z a h s step (deed.Ends i) on meets g number e = absurd on
@@ -99,7 +71,7 @@ module _ (k : Known) (z : Cycle) (a : ℕ) (h : Heap) (s : Marking) (m : Process
   abbrev pub processor_then : Processor
   processor_then = takes z.arena.layout z.arena.shapes m found_there
 
-  pub goes_on : (g : ℕ) → heap.GoroutineRuns z.arena (view h) a g → s.words (cell.Scanned g) ≢ END
+  pub goes_on : (g : ℕ) → heap.GoroutineRuns z.arena (view h) a g → s.words (Cell.Scanned g) ≢ END
   goes_on g runs = t.beside.goes_on g runs.of.0 runs.goes_on
 
   stands : KnowsAtAnyTime z.arena a (view heap_then) processor_then.poll
@@ -109,25 +81,25 @@ module _ (k : Known) (z : Cycle) (a : ℕ) (h : Heap) (s : Marking) (m : Process
   places = let many = k.notes.as_many z.arena.layout z.arena.shapes m found_there t.sound in let was = t.facts.stacks.places in omega (arith, many, was)
 
   -- What is known of its stacks behind a step that leaves their words, by what is known of the heap.
-  module _ (u : Marking) (beside : IsBeside z.arena heap_then u) (goes : (g : ℕ) → IsOf z.arena a g → u.words (cell.Scanned g) ≢ END → heap_then.ever.ended g ≡ false) where
-    values : (g : ℕ) → IsOf z.arena a g → u.words (cell.Scanned g) ≢ END → AreRegisters (u.registers g) (slice_index_or processor_then.poll.local.stacks g [])
+  module _ (u : Marking) (beside : IsBeside z.arena heap_then u) (goes : (g : ℕ) → IsOf z.arena a g → u.words (Cell.Scanned g) ≢ END → heap_then.ever.ended g ≡ false) where
+    values : (g : ℕ) → IsOf z.arena a g → u.words (Cell.Scanned g) ≢ END → AreRegisters (u.registers g) (slice_index_or processor_then.poll.local.stacks g [])
     values g its on = grind (arith, same_name, some_name, stands)
 
-    pub stacks_by : ((g : ℕ) → IsOf z.arena a g → slice_index_or processor_then.poll.local.scanned g 0 ≡ u.words (cell.Scanned g)) → KnowsStacks z a u processor_then.poll.local.stacks processor_then.poll.local.scanned
+    pub stacks_by : ((g : ℕ) → IsOf z.arena a g → slice_index_or processor_then.poll.local.scanned g 0 ≡ u.words (Cell.Scanned g)) → KnowsStacks z a u processor_then.poll.local.stacks processor_then.poll.local.scanned
     stacks_by noted = record { own = t.facts.stacks.own; registers = values; noted = noted; places = places }
 
-  module _ (u : Marking) (beside : IsBeside z.arena heap_then u) (spares : (g number : ℕ) → asks z.arena.layout m ≢ ask.Store (cell.Scanned g) number) (ends : (g : ℕ) → heap_then.ever.ended g ≡ h.ever.ended g) where
-    unwritten : (g : ℕ) → IsWritten z.arena.layout m (cell.Scanned g) → ⊥
+  module _ (u : Marking) (beside : IsBeside z.arena heap_then u) (spares : (g number : ℕ) → asks z.arena.layout m ≢ Ask.Store (Cell.Scanned g) number) (ends : (g : ℕ) → heap_then.ever.ended g ≡ h.ever.ended g) where
+    unwritten : (g : ℕ) → IsWritten z.arena.layout m (Cell.Scanned g) → ⊥
     unwritten g h = grind arith
 
-    word_stays : (g : ℕ) → u.words (cell.Scanned g) ≡ h.words (cell.Scanned g)
-    word_stays g = ap (λ (w : Words). w (cell.Scanned g)) (beside.words ∙ l.words_are) ∙ k.own.leaves z.arena.layout m h.words (cell.Scanned g) t.sound (unwritten g)
+    word_stays : (g : ℕ) → u.words (Cell.Scanned g) ≡ h.words (Cell.Scanned g)
+    word_stays g = ap (λ (w : Words). w (Cell.Scanned g)) (beside.words ∙ l.words_are) ∙ k.own.leaves z.arena.layout m h.words (Cell.Scanned g) t.sound (unwritten g)
 
-    goes : (g : ℕ) → IsOf z.arena a g → u.words (cell.Scanned g) ≢ END → heap_then.ever.ended g ≡ false
+    goes : (g : ℕ) → IsOf z.arena a g → u.words (Cell.Scanned g) ≢ END → heap_then.ever.ended g ≡ false
     goes g its on = grind (arith, word_stays)
 
     stacks_then : KnowsStacks z a u processor_then.poll.local.stacks processor_then.poll.local.scanned
-    stacks_then = stacks_by u beside goes (λ g its. k.notes.keeps z.arena.layout z.arena.shapes m found_there g t.sound (spares g) ∙ t.facts.stacks.noted g its ∙ ap (λ (w : Words). w (cell.Scanned g)) t.beside.words ∙ sym (word_stays g))
+    stacks_then = stacks_by u beside goes (λ g its. k.notes.keeps z.arena.layout z.arena.shapes m found_there g t.sound (spares g) ∙ t.facts.stacks.noted g its ∙ ap (λ (w : Words). w (Cell.Scanned g)) t.beside.words ∙ sym (word_stays g))
 
   pub facts_then : (u : Marking) → KnowsStacks z a u processor_then.poll.local.stacks processor_then.poll.local.scanned → TaskFacts z a u processor_then.poll processor_then.task → MarkFacts z a u processor_then
   facts_then u stacks f = record { seat_is = k.own.stays_there z.arena.layout z.arena.shapes m found_there t.sound ∙ t.facts.seat_is; stacks = stacks; task_is = f }
@@ -146,7 +118,7 @@ module _ (k : Known) (z : Cycle) (a : ℕ) (h : Heap) (s : Marking) (m : Process
 
   -- It is made of moves of marking alone.
   module _ (is : acted z.arena.shapes h.ever (acts z.arena.layout m found_there) ≡ h.ever) (u : Marking) (went : marks.Went z a s u) (words_are : u.words ≡ effect s.words (asks z.arena.layout m)) (fills : (o : ℕ) → u.colour o ≡ Placing a → ClaimsSlot z.arena (view heap_then) a o) where
-    pub by_marking : ((g d : ℕ) → heap.GoroutineRuns z.arena (view h) a g → d < REGISTERS → u.registers g d ≡ s.registers g d) → ((g : ℕ) → heap.GoroutineRuns z.arena (view h) a g → u.words (cell.Scanned g) ≢ END) → MarkFacts z a u processor_then → StepsOn z a heap_then s processor_then
+    pub by_marking : ((g d : ℕ) → heap.GoroutineRuns z.arena (view h) a g → d < REGISTERS → u.registers g d ≡ s.registers g d) → ((g : ℕ) → heap.GoroutineRuns z.arena (view h) a g → u.words (Cell.Scanned g) ≢ END) → MarkFacts z a u processor_then → StepsOn z a heap_then s processor_then
     by_marking registers on facts = record {
       then = u;
       went = went;
@@ -165,5 +137,5 @@ module _ (k : Known) (z : Cycle) (a : ℕ) (h : Heap) (s : Marking) (m : Process
     by_keeping kept facts = by_marking (λ g d runs low. kept.registers g d runs.of) (λ g runs e. goes_on g runs (sym (kept.stacks g runs.of) ∙ e)) facts
 
   -- It loads, and nothing changes.
-  pub by_load : acted z.arena.shapes h.ever (acts z.arena.layout m found_there) ≡ h.ever → (c : Cell) → asks z.arena.layout m ≡ ask.Load c → FillsNone a s → MarkFacts z a s processor_then → StepsOn z a heap_then s processor_then
+  pub by_load : acted z.arena.shapes h.ever (acts z.arena.layout m found_there) ≡ h.ever → (c : Cell) → asks z.arena.layout m ≡ Ask.Load c → FillsNone a s → MarkFacts z a s processor_then → StepsOn z a heap_then s processor_then
   by_load is c loads fills facts = by_marking is s marks.stays (sym (ap (λ (x : Ask). effect s.words x) loads)) (λ o e. absurd (fills o e)) (λ g d runs low. refl) goes_on facts

@@ -1,41 +1,24 @@
 -- Steps of a load beside marking. At its point its register takes what the field held.
 use Rattle.std.proofs.Common.{◌≡◌, ℕ, ◌<◌, Bool, true, false, cond, Option, None, inl, inr, refl, ap, ◌∙◌, arith}
 use Rattle.std.proofs.lemmas.Bool.{lt-ltb}
-use Rattle.gh_base.specs.declared.value.Answer.TheVariants as answer
-use Rattle.gh_base.specs.declared.value.Fault.TheVariants as fault
-use Rattle.gh_model.specs.declared.EverValue.TheVariants as ever
-use Rattle.gh_model.specs.Ever.{load_answer, takes_answer}
-use Rattle.gh_cycle.specs.Deeds.{Deed, ever_by, from_field, hand_behind, MeetsByDeed, Rests, Sets}
-use Rattle.gh_cycle.specs.Beside.{FillsNone}
-use Rattle.gh_heap.specs.Rights.{Shared as Heap}
-use Rattle.gh_marks.specs.Colours.{Shared as Marking}
-use Rattle.gh_mutator.specs.declared.load.LoadStage.TheVariants.{Page, Bits, Field, Birth, NilBase}
-use Rattle.gh_mutator.specs.declared.task.Task.TheVariants as task
-use Rattle.gh_mutator_heap.specs.Beside.{StepsOn, Together}
-use Rattle.gh_mutator.specs.Deeds.{acted}
-use Rattle.gh_mutator_heap.specs.Facts.{Loads}
-use Rattle.gh_mutator.specs.Fields.{has_field}
-use Rattle.gh_mutator.specs.Listing.{acting, asks, follows}
-use Rattle.gh_mutator.specs.Load.{at_stage, op_of, step}
-use Rattle.gh_poll.specs.MarkFacts.{holding_only, IsBetween}
-use Rattle.gh_mutator.specs.MarkVocabulary.{Cycle, InHand}
-use Rattle.gh_mutator.specs.Processor.{at_task}
-use Rattle.gh_mutator.specs.ProcessorMarks.{TaskFacts}
-use Rattle.gh_mutator.specs.Vocabulary.{Answer, Name, Polling}
-use Rattle.gh_mutator_heap.specs.Vocabulary.{Ever, EverValue, size_for, answer_of_value, view, Ends, GoesOn, Load, LoadStage, Processor, Step, Then}
+use Rattle.gh_mutator_heap.proofs.Vocabulary.{acted, acting, Answer, answer_of_value, asks, at_task, Birth, Bits, Cycle, Deed, Ever, ever_by, EverValue, Fault, Field, FillsNone, follows, from_field, hand_behind, has_field, Heap, holding_only, InHand, IsBetween, Load, load_answer, Loads, LoadStage, Marking, MeetsByDeed, Name, NilBase, op_of, Page, Polling, Processor, Sets, size_for, Step, StepsOn, takes_answer, Task, TaskFacts, Together, view}
+use Rattle.gh_cycle.specs.Deeds.{Rests}
+use Rattle.gh_mutator.specs.Load.{at_stage, step}
+use Rattle.gh_mutator.specs.declared.step.Then.TheVariants.{Ends, GoesOn}
+use Rattle.gh_mutator.specs.declared.step.Then.{Then}
 use Rattle.gh_mutator_heap.proofs.Going.Known.{by_deed, EndsNone, fills_none, found_there, heap_then, Known, processor_then, StepAt, StepOf}
 use Rattle.gh_mutator_heap.proofs.Going.Values.{between_then, pointing_scans, Quits, quits_rests}
 use Rattle.gh_mutator_heap.proofs.Owning.Objects.{takes_told}
 
-follows_facts : (z : Cycle) (a : ℕ) (u : Marking) (p : Polling) (then : Then Load) → IsBetween z a u p.local → TaskFacts z a u p (follows task.Load then)
+follows_facts : (z : Cycle) (a : ℕ) (u : Marking) (p : Polling) (then : Then Load) → IsBetween z a u p.local → TaskFacts z a u p (follows Task.Load then)
 follows_facts z a u p then b = grind arith
 
-page_quits : (x : Load) (b : Bool) → Quits (cond b (record { then = GoesOn (at_stage x Bits); sets = None; acts = false }) (record { then = Ends (answer.Fault fault.Field); sets = None; acts = true }))
+page_quits : (x : Load) (b : Bool) → Quits (cond b (record { then = GoesOn (at_stage x Bits); sets = None; acts = false }) (record { then = Ends (Answer.Fault Fault.Field); sets = None; acts = true }))
 page_quits x b = grind arith
 
 module _ (k : Known) (x : Load) (q : LoadStage) (z : Cycle) (a : ℕ) (h : Heap) (s : Marking) (m : Processor) (pending : Option Answer) where
   abbrev here : Processor
-  here = at_task m (task.Load (at_stage x q))
+  here = at_task m (Task.Load (at_stage x q))
 
   module _ (t : Together z a h s here pending) (l : StepOf z a h here pending) where
     abbrev found : ℕ
@@ -57,10 +40,10 @@ module _ (k : Known) (x : Load) (q : LoadStage) (z : Cycle) (a : ℕ) (h : Heap)
     rests : pending ≡ None → Quits now → MeetsByDeed z a h s (asks z.arena.layout here) Rests → Goes
     rests none quits meets = by Rests tt (λ hand. refl) (quits_rests z.arena.shapes h.ever (op_of x) pending l.after.does.after now (λ f. refl) none l.after.does.answers quits) meets
 
-load_found : (z : Cycle) (e : Ever) (v : EverValue) (n : Name) (k : ℕ) → v ≡ ever.Ref n → k < size_for z.arena.shapes e.type_of n → load_answer z.arena.shapes e v k ≡ answer_of_value (e.field n k)
+load_found : (z : Cycle) (e : Ever) (v : EverValue) (n : Name) (k : ℕ) → v ≡ EverValue.Ref n → k < size_for z.arena.shapes e.type_of n → load_answer z.arena.shapes e v k ≡ answer_of_value (e.field n k)
 load_found z e v n k is few = rw (is, lt-ltb k (size_for z.arena.shapes e.type_of n) few) refl
 
-at : Known → (x : Load) (q : LoadStage) → StepAt (task.Load (at_stage x q))
+at : Known → (x : Load) (q : LoadStage) → StepAt (Task.Load (at_stage x q))
 at k x Page z a h s m pending t kn l = rests k x Page z a h s m pending t l t.fine.task.unanswered (page_quits x (has_field x.k (found k x Page z a h s m pending t l))) (tt, fills k x Page z a h s m pending t l)
 at k x Bits z a h s m pending t kn l = rests k x Bits z a h s m pending t l t.fine.task.0.unanswered (inl refl) (tt, fills k x Bits z a h s m pending t l)
 at k x (Field p) z a h s m pending t kn l = by k x (Field p) z a h s m pending t l (Sets x.g x.d (h.ever.field f.n x.k)) tt (λ hand. refl)
@@ -74,7 +57,7 @@ at k x (Field p) z a h s m pending t kn l = by k x (Field p) z a h s m pending t
       f : Loads z.arena a (view h) (at_stage x (Field p)) pending
       f = t.fine.task.0
 at k x (Birth i) z a h s m pending t kn l = by k x (Birth i) z a h s m pending t l Rests tt (λ hand. refl) refl (tt, fills k x (Birth i) z a h s m pending t l)
-at k x NilBase z a h s m pending t kn l = rests k x NilBase z a h s m pending t l t.fine.task.3 (inr (fault.NilBase, refl, refl)) (tt, fills k x NilBase z a h s m pending t l)
+at k x NilBase z a h s m pending t kn l = rests k x NilBase z a h s m pending t l t.fine.task.3 (inr (Fault.NilBase, refl, refl)) (tt, fills k x NilBase z a h s m pending t l)
 
-pub load_step : Known → (x : Load) → StepAt (task.Load x)
+pub load_step : Known → (x : Load) → StepAt (Task.Load x)
 load_step k x = at k x x.stage

@@ -1,36 +1,15 @@
 -- Steps of the making of an object beside marking: its slot is cleared and laid out, then it is marked, and then it is made.
 use Rattle.std.proofs.Common.{◌≡◌, ℕ, ◌+◌, ◌*◌, ◌%◌, ◌^◌, ◌<◌, Bool, true, false, cond, eqb, ltb, nat_le, is_none, Option, Some, None, refl, sym, ap, subst, ◌∙◌, arith}
 use Rattle.std.proofs.lemmas.Bool.{eqb-true}
-use Rattle.gh_base.specs.declared.cell.Cell.TheVariants as cell
-use Rattle.gh_base.specs.declared.pack.SpanHead.{SpanHead}
-use Rattle.gh_base.specs.declared.shape.Shape.{Shape}
-use Rattle.gh_base.specs.Packing.{birth_word, bit}
-use Rattle.gh_base.specs.Shapes.{is_pointer, shape_at}
-use Rattle.gh_class.specs.Classes.{size_class_of}
+use Rattle.gh_mutator_heap.proofs.Vocabulary.{Answer, at_task, birth_word, bit, Cell, Claims, ClaimsSlot, Cycle, field_count, FillsNone, for_whom, Hands, Heap, holding_only, is_pointer, IsBetween, IsReady, Keeps, KnowsStacks, Layout, made_object, made_task, makes, Marking, MayMake, Name, next_name, PlaceStage, Placing, PlacingBy, Processor, reserved_at, Shape, shape_at, size_class_of, SpanHead, stacks_last, StepsOn, TaskFacts, Together, view, Wanted, wants}
 use Rattle.gh_bitmap.specs.declared.set_pointers.SetStage.{SetStage}
 use Rattle.gh_bitmap.specs.SetPointers as bits
 use Rattle.gh_central.specs.declared.give.GiveStage.{GiveStage}
 use Rattle.gh_central.specs.GiveBack as give
-use Rattle.gh_alloc.specs.declared.place.PlaceStage.TheVariants as making
 use Rattle.gh_alloc.specs.Place as place
-use Rattle.gh_alloc.specs.Place.{Placing}
 use Rattle.gh_alloc.specs.PlaceFacts as place_facts
-use Rattle.gh_cycle.specs.Beside.{ClaimsSlot, FillsNone}
 use Rattle.gh_cycle.specs.Deeds.{Makes, Rests}
-use Rattle.gh_heap.specs.Moves.{IsReady, MayMake}
-use Rattle.gh_heap.specs.Rights.{Claims, Shared as Heap}
-use Rattle.gh_marks.specs.Colours.{Placing as PlacingBy, Shared as Marking}
 use Rattle.gh_marks.specs.Moves as marks
-use Rattle.gh_model.specs.Ever.{field_count, next_name}
-use Rattle.gh_mutator_heap.specs.Beside.{StepsOn, Together}
-use Rattle.gh_mutator_heap.specs.Facts.{for_whom}
-use Rattle.gh_poll.specs.MarkFacts.{holding_only, IsBetween, KnowsStacks, stacks_last}
-use Rattle.gh_mutator.specs.MarkVocabulary.{Cycle, Hands, Keeps}
-use Rattle.gh_mutator.specs.New.{made_object, made_task, makes, wants}
-use Rattle.gh_mutator.specs.Processor.{at_task}
-use Rattle.gh_mutator.specs.ProcessorMarks.{reserved_at, TaskFacts}
-use Rattle.gh_mutator.specs.Vocabulary.{Answer, Layout, Name, PlaceStage}
-use Rattle.gh_mutator_heap.specs.Vocabulary.{view, Processor, Wanted}
 use Rattle.gh_mutator_heap.proofs.Going.Known.{by_deed, by_keeping, fills_none, heap_then, Known, processor_then, StepAt, StepOf}
 use Rattle.gh_mutator_heap.proofs.Owning.SearchSteps.{sized}
 
@@ -67,7 +46,7 @@ module _ (k : Known) (w : Wanted) (p : Placing) (z : Cycle) (a : ℕ) (h : Heap)
   fills : (q : PlaceStage) (t : Ready q) → reserved_at p.at q ≡ None → FillsNone a s
   fills q t free = fills_none a s (holding_only m.poll.local.held) refl (between q t free)
 
-  module _ (t : Ready making.Mark) (l : StepOf z a h (at w p making.Mark m) pending) where
+  module _ (t : Ready PlaceStage.Mark) (l : StepOf z a h (at w p PlaceStage.Mark m) pending) where
     abbrev marked : Marking
     marked = marks.moved z a s (marks.Reserve p.at)
 
@@ -75,29 +54,29 @@ module _ (k : Known) (w : Wanted) (p : Placing) (z : Cycle) (a : ℕ) (h : Heap)
     claim = t.fine.task.facts.0.claim
 
     may : marks.May z a s (marks.Reserve p.at)
-    may = (k.reserve z a p.at p.slot h s t.heap t.marking t.beside claim (fills making.Mark t refl)).0
+    may = (k.reserve z a p.at p.slot h s t.heap t.marking t.beside claim (fills PlaceStage.Mark t refl)).0
 
     kept : Keeps z a s marked
     kept = k.leave z a s (marks.Reserve p.at) t.marking may tt
 
-    slot : ClaimsSlot z.arena (view (heap_then k z a h s (at w p making.Mark m) pending t l)) a p.at
+    slot : ClaimsSlot z.arena (view (heap_then k z a h s (at w p PlaceStage.Mark m) pending t l)) a p.at
     slot = record { size = p.slot; claim = l.after.does.fine.task.facts.0.claim }
 
-    claims : (o : ℕ) → marked.colour o ≡ PlacingBy a → ClaimsSlot z.arena (view (heap_then k z a h s (at w p making.Mark m) pending t l)) a o
+    claims : (o : ℕ) → marked.colour o ≡ PlacingBy a → ClaimsSlot z.arena (view (heap_then k z a h s (at w p PlaceStage.Mark m) pending t l)) a o
     claims o is = by (eqb p.at o) refl is where
-      by : (b : Bool) → eqb p.at o ≡ b → cond b (PlacingBy a) (s.colour o) ≡ PlacingBy a → ClaimsSlot z.arena (view (heap_then k z a h s (at w p making.Mark m) pending t l)) a o
-      by true e is = subst (λ (x : ℕ). ClaimsSlot z.arena (view (heap_then k z a h s (at w p making.Mark m) pending t l)) a x) (eqb-true p.at o e) slot
-      by false e is = absurd (fills making.Mark t refl o is)
+      by : (b : Bool) → eqb p.at o ≡ b → cond b (PlacingBy a) (s.colour o) ≡ PlacingBy a → ClaimsSlot z.arena (view (heap_then k z a h s (at w p PlaceStage.Mark m) pending t l)) a o
+      by true e is = subst (λ (x : ℕ). ClaimsSlot z.arena (view (heap_then k z a h s (at w p PlaceStage.Mark m) pending t l)) a x) (eqb-true p.at o e) slot
+      by false e is = absurd (fills PlaceStage.Mark t refl o is)
 
     stacks_so : KnowsStacks z a marked m.poll.local.stacks m.poll.local.scanned
     stacks_so = stacks_last z a s marked m.poll.local.stacks m.poll.local.scanned kept t.facts.stacks
 
-    marks_slot : Goes making.Mark t l
-    marks_slot = by_keeping k z a h s (at w p making.Mark m) pending t l refl marked (marks.goes s (marks.Reserve p.at) marks.stays may) refl claims kept
-        (record { seat_is = t.facts.seat_is; stacks = stacks_so; task_is = record { marking = t.facts.task_is.marking; stacks = stacks_so; number = t.facts.task_is.number; hands = (k.follow z a s (holding_only m.poll.local.held) t.marking (between making.Mark t refl)).reserved p.at may refl } })
+    marks_slot : Goes PlaceStage.Mark t l
+    marks_slot = by_keeping k z a h s (at w p PlaceStage.Mark m) pending t l refl marked (marks.goes s (marks.Reserve p.at) marks.stays may) refl claims kept
+        (record { seat_is = t.facts.seat_is; stacks = stacks_so; task_is = record { marking = t.facts.task_is.marking; stacks = stacks_so; number = t.facts.task_is.number; hands = (k.follow z a s (holding_only m.poll.local.held) t.marking (between PlaceStage.Mark t refl)).reserved p.at may refl } })
 
   -- The object is made.
-  module _ (t : Ready making.Alloc) (l : StepOf z a h (at w p making.Alloc m) pending) where
+  module _ (t : Ready PlaceStage.Alloc) (l : StepOf z a h (at w p PlaceStage.Alloc m) pending) where
     abbrev f : place_facts.Filled z.arena a (view h) (for_whom w) (place_facts.base p)
     f = t.fine.task.facts
 
@@ -117,40 +96,40 @@ module _ (k : Known) (w : Wanted) (p : Placing) (z : Cycle) (a : ℕ) (h : Heap)
     may_make : MayMake z.arena (view h) a p.at w.g w.d w.t
     may_make = grind (arith, ready)
 
-    made_facts : (u : Marking) (span : Option SpanHead) → IsBetween z a u (made_object (at w p making.Alloc m) w p.at).poll.local → TaskFacts z a u (made_object (at w p making.Alloc m) w p.at).poll (made_task m.poll w (place.at_stage p (place.made p span)) (place.given_at (place.made p span)))
+    made_facts : (u : Marking) (span : Option SpanHead) → IsBetween z a u (made_object (at w p PlaceStage.Alloc m) w p.at).poll.local → TaskFacts z a u (made_object (at w p PlaceStage.Alloc m) w p.at).poll (made_task m.poll w (place.at_stage p (place.made p span)) (place.given_at (place.made p span)))
     made_facts u span b = grind arith
 
-    makes_it : Goes making.Alloc t l
-    makes_it = by_deed k z a h s (at w p making.Alloc m) pending t l (Makes p.at w.g w.d w.t) tt refl (refl, (t.facts.task_is.hands.has.is_reserved p.at).0 refl, may_make)
+    makes_it : Goes PlaceStage.Alloc t l
+    makes_it = by_deed k z a h s (at w p PlaceStage.Alloc m) pending t l (Makes p.at w.g w.d w.t) tt refl (refl, (t.facts.task_is.hands.has.is_reserved p.at).0 refl, may_make)
         (λ u hands stacks. made_facts u p.span (record { stacks = stacks; number = t.facts.task_is.number; hands = hands (record (holding_only m.poll.local.held) { placing = Some p.at }) t.facts.task_is.hands }))
 
 -- By its stages.
 place_at : Known → (w : Wanted) (p : Placing) (q : PlaceStage) → StepAt (makes w (place.at_stage p q))
-place_at k w p (making.Clear i) z a h s m pending t kn l = by_deed k z a h s (at w p (making.Clear i) m) pending t l Rests tt refl
-    (k.aside z a p.at p.slot i h s t.heap t.marking t.beside t.fine.task.facts.0.claim t.fine.task.facts.1, fills k w p z a h s m pending (making.Clear i) t refl)
-    (λ u hands stacks. by u (ltb (i + 1) p.slot) (record { stacks = stacks; number = t.facts.task_is.number; hands = hands (holding_only m.poll.local.held) (between k w p z a h s m pending (making.Clear i) t refl) })) where
-      by : (u : Marking) (b : Bool) → IsBetween z a u m.poll.local → TaskFacts z a u m.poll (made_task m.poll w (place.at_stage p (cond b (making.Clear (i + 1)) making.Birth)) (place.given_at (cond b (making.Clear (i + 1)) making.Birth)))
-      by u true b = goes_facts z a u m w p (making.Clear (i + 1)) t.facts.task_is.marking refl refl b
-      by u false b = goes_facts z a u m w p making.Birth t.facts.task_is.marking refl refl b
-place_at k w p making.Birth z a h s m pending t kn l = by_deed k z a h s (at w p making.Birth m) pending t l Rests tt refl (tt, fills k w p z a h s m pending making.Birth t refl)
-    (λ u hands stacks. goes_facts z a u m w p (making.Bits (bits.opening p.shape p.at p.slot)) t.facts.task_is.marking refl refl (record { stacks = stacks; number = t.facts.task_is.number; hands = hands (holding_only m.poll.local.held) (between k w p z a h s m pending making.Birth t refl) }))
-place_at k w p (making.Bits b) z a h s m pending t kn l = by_deed k z a h s (at w p (making.Bits b) m) pending t l Rests tt refl (bits_quiet s z.arena.layout b b.stage, fills k w p z a h s m pending (making.Bits b) t refl)
-    (λ u hands stacks. by u (is_none (bits.given (bits.goes b 0))) p.marking t.facts.task_is.marking refl (record { stacks = stacks; number = t.facts.task_is.number; hands = hands (holding_only m.poll.local.held) (between k w p z a h s m pending (making.Bits b) t refl) })) where
-      by : (u : Marking) (busy marking : Bool) → marking ≡ true → is_none (bits.given (bits.goes b 0)) ≡ busy → IsBetween z a u m.poll.local → TaskFacts z a u m.poll (made_task m.poll w (place.at_stage p (cond busy (making.Bits (bits.goes b 0)) (place.filled marking))) (place.given_at (cond busy (making.Bits (bits.goes b 0)) (place.filled marking))))
-      by u true marking on busy x = goes_facts z a u m w p (making.Bits (bits.goes b 0)) t.facts.task_is.marking refl refl x
-      by u false true on busy x = goes_facts z a u m w p making.Mark t.facts.task_is.marking refl refl x
+place_at k w p (PlaceStage.Clear i) z a h s m pending t kn l = by_deed k z a h s (at w p (PlaceStage.Clear i) m) pending t l Rests tt refl
+    (k.aside z a p.at p.slot i h s t.heap t.marking t.beside t.fine.task.facts.0.claim t.fine.task.facts.1, fills k w p z a h s m pending (PlaceStage.Clear i) t refl)
+    (λ u hands stacks. by u (ltb (i + 1) p.slot) (record { stacks = stacks; number = t.facts.task_is.number; hands = hands (holding_only m.poll.local.held) (between k w p z a h s m pending (PlaceStage.Clear i) t refl) })) where
+      by : (u : Marking) (b : Bool) → IsBetween z a u m.poll.local → TaskFacts z a u m.poll (made_task m.poll w (place.at_stage p (cond b (PlaceStage.Clear (i + 1)) PlaceStage.Birth)) (place.given_at (cond b (PlaceStage.Clear (i + 1)) PlaceStage.Birth)))
+      by u true b = goes_facts z a u m w p (PlaceStage.Clear (i + 1)) t.facts.task_is.marking refl refl b
+      by u false b = goes_facts z a u m w p PlaceStage.Birth t.facts.task_is.marking refl refl b
+place_at k w p PlaceStage.Birth z a h s m pending t kn l = by_deed k z a h s (at w p PlaceStage.Birth m) pending t l Rests tt refl (tt, fills k w p z a h s m pending PlaceStage.Birth t refl)
+    (λ u hands stacks. goes_facts z a u m w p (PlaceStage.Bits (bits.opening p.shape p.at p.slot)) t.facts.task_is.marking refl refl (record { stacks = stacks; number = t.facts.task_is.number; hands = hands (holding_only m.poll.local.held) (between k w p z a h s m pending PlaceStage.Birth t refl) }))
+place_at k w p (PlaceStage.Bits b) z a h s m pending t kn l = by_deed k z a h s (at w p (PlaceStage.Bits b) m) pending t l Rests tt refl (bits_quiet s z.arena.layout b b.stage, fills k w p z a h s m pending (PlaceStage.Bits b) t refl)
+    (λ u hands stacks. by u (is_none (bits.given (bits.goes b 0))) p.marking t.facts.task_is.marking refl (record { stacks = stacks; number = t.facts.task_is.number; hands = hands (holding_only m.poll.local.held) (between k w p z a h s m pending (PlaceStage.Bits b) t refl) })) where
+      by : (u : Marking) (busy marking : Bool) → marking ≡ true → is_none (bits.given (bits.goes b 0)) ≡ busy → IsBetween z a u m.poll.local → TaskFacts z a u m.poll (made_task m.poll w (place.at_stage p (cond busy (PlaceStage.Bits (bits.goes b 0)) (place.filled marking))) (place.given_at (cond busy (PlaceStage.Bits (bits.goes b 0)) (place.filled marking))))
+      by u true marking on busy x = goes_facts z a u m w p (PlaceStage.Bits (bits.goes b 0)) t.facts.task_is.marking refl refl x
+      by u false true on busy x = goes_facts z a u m w p PlaceStage.Mark t.facts.task_is.marking refl refl x
       by u false false on busy x = absurd (cc)
-place_at k w p making.Mark z a h s m pending t kn l = marks_slot k w p z a h s m pending t l
-place_at k w p making.Alloc z a h s m pending t kn l = makes_it k w p z a h s m pending t l
-place_at k w p (making.Give g) z a h s m pending t kn l = by_deed k z a h s (at w p (making.Give g) m) pending t l Rests tt refl (give_quiet s g g.stage, fills k w p z a h s m pending (making.Give g) t refl)
-    (λ u hands stacks. goes_facts z a u m w p making.Count t.facts.task_is.marking refl refl (record { stacks = stacks; number = t.facts.task_is.number; hands = hands (holding_only m.poll.local.held) (between k w p z a h s m pending (making.Give g) t refl) }))
-place_at k w p making.Count z a h s m pending t kn l = by_deed k z a h s (at w p making.Count m) pending t l Rests tt refl (tt, fills k w p z a h s m pending making.Count t refl)
-    (λ u hands stacks. by u p.marking ((h.words cell.Heap + 8 * p.slot) % 2 ^ 64) (record { stacks = stacks; number = t.facts.task_is.number; hands = hands (holding_only m.poll.local.held) (between k w p z a h s m pending making.Count t refl) })) where
-      by : (u : Marking) (marking : Bool) (bytes : ℕ) → IsBetween z a u m.poll.local → TaskFacts z a u m.poll (made_task m.poll w (place.at_stage p (cond marking (making.Ended false) (making.LoadTrigger bytes))) (place.given_at (cond marking (making.Ended false) (making.LoadTrigger bytes))))
+place_at k w p PlaceStage.Mark z a h s m pending t kn l = marks_slot k w p z a h s m pending t l
+place_at k w p PlaceStage.Alloc z a h s m pending t kn l = makes_it k w p z a h s m pending t l
+place_at k w p (PlaceStage.Give g) z a h s m pending t kn l = by_deed k z a h s (at w p (PlaceStage.Give g) m) pending t l Rests tt refl (give_quiet s g g.stage, fills k w p z a h s m pending (PlaceStage.Give g) t refl)
+    (λ u hands stacks. goes_facts z a u m w p PlaceStage.Count t.facts.task_is.marking refl refl (record { stacks = stacks; number = t.facts.task_is.number; hands = hands (holding_only m.poll.local.held) (between k w p z a h s m pending (PlaceStage.Give g) t refl) }))
+place_at k w p PlaceStage.Count z a h s m pending t kn l = by_deed k z a h s (at w p PlaceStage.Count m) pending t l Rests tt refl (tt, fills k w p z a h s m pending PlaceStage.Count t refl)
+    (λ u hands stacks. by u p.marking ((h.words Cell.Heap + 8 * p.slot) % 2 ^ 64) (record { stacks = stacks; number = t.facts.task_is.number; hands = hands (holding_only m.poll.local.held) (between k w p z a h s m pending PlaceStage.Count t refl) })) where
+      by : (u : Marking) (marking : Bool) (bytes : ℕ) → IsBetween z a u m.poll.local → TaskFacts z a u m.poll (made_task m.poll w (place.at_stage p (cond marking (PlaceStage.Ended false) (PlaceStage.LoadTrigger bytes))) (place.given_at (cond marking (PlaceStage.Ended false) (PlaceStage.LoadTrigger bytes))))
       by u marking bytes b = grind arith
-place_at k w p (making.LoadTrigger bytes) z a h s m pending t kn l = by_deed k z a h s (at w p (making.LoadTrigger bytes) m) pending t l Rests tt refl (tt, fills k w p z a h s m pending (making.LoadTrigger bytes) t refl)
-    (λ u hands stacks. over_facts k z a u m w (place.at_stage p (making.Ended (nat_le (h.words cell.Trigger) bytes))) (nat_le (h.words cell.Trigger) bytes) t.facts.seat_is (record { stacks = stacks; number = t.facts.task_is.number; hands = hands (holding_only m.poll.local.held) (between k w p z a h s m pending (making.LoadTrigger bytes) t refl) }))
-place_at k w p (making.Ended asks) z a h s m pending t kn l = absurd t.fine.task.facts
+place_at k w p (PlaceStage.LoadTrigger bytes) z a h s m pending t kn l = by_deed k z a h s (at w p (PlaceStage.LoadTrigger bytes) m) pending t l Rests tt refl (tt, fills k w p z a h s m pending (PlaceStage.LoadTrigger bytes) t refl)
+    (λ u hands stacks. over_facts k z a u m w (place.at_stage p (PlaceStage.Ended (nat_le (h.words Cell.Trigger) bytes))) (nat_le (h.words Cell.Trigger) bytes) t.facts.seat_is (record { stacks = stacks; number = t.facts.task_is.number; hands = hands (holding_only m.poll.local.held) (between k w p z a h s m pending (PlaceStage.LoadTrigger bytes) t refl) }))
+place_at k w p (PlaceStage.Ended asks) z a h s m pending t kn l = absurd t.fine.task.facts
 
 pub place_step : Known → (w : Wanted) (p : Placing) → StepAt (makes w p)
 place_step k w p = place_at k w p p.stage

@@ -1,40 +1,17 @@
 -- Steps of a poll, of a wait and of a leave beside marking: they are made of moves of marking alone. No slot is being filled, and the registers stay.
-use Rattle.std.proofs.Common.{◌≡◌, ◌≢◌, ℕ, ◌<◌, Bool, true, false, cond, is_some, List, [], Option, Some, None, refl, sym, ap, subst, ◌∙◌, arith}
-use Rattle.std.specs.Prelude.{slice_index, slice_index_or}
-use Rattle.gh_base.specs.Reading.{read_after_set}
-use Rattle.gh_base.specs.declared.cell.Cell.TheVariants as cell
-use Rattle.gh_base.specs.declared.limits.TheConstants.{REGISTERS}
-use Rattle.gh_base.specs.declared.operation.Op.TheVariants as op
-use Rattle.gh_base.specs.declared.pack.TheConstants.{END}
-use Rattle.gh_base.specs.declared.value.Value.TheVariants as value
-use Rattle.gh_base.specs.Cells.{Words}
-use Rattle.gh_cycle.specs.Beside.{FillsNone}
+use Rattle.std.proofs.Common.{◌≡◌, ◌≢◌, ℕ, ◌<◌, Bool, true, false, cond, is_some, List, [], Option, Some, None, refl, sym, ap, subst, ◌∙◌, arith, slice_index, slice_index_or}
+use Rattle.gh_mutator_heap.proofs.Vocabulary.{acted, acting, acts, after_gc, after_leave, after_poll, Answer, asks, at_task, Cell, cell_of, Cycle, END, Ever, FillsNone, Heap, Held, Layout, Leaving, MarkFacts, Marking, named, only_polls, Op, Polling, PollStage, PollStageFacts, Processor, read_after_set, REGISTERS, Resumed, RunPhase, Shape, StepsOn, takes, Task, TaskFacts, Together, Value, view, Wait, Waiting, WaitStage, WaitStageFacts, WaitState, Wanted, Words}
 use Rattle.gh_heap.specs.Moves as heap
-use Rattle.gh_heap.specs.Rights.{Shared as Heap}
-use Rattle.gh_marks.specs.Colours.{Shared as Marking}
 use Rattle.gh_marks.specs.Moves as marks
 use Rattle.gh_phase.specs.Listing as resume
-use Rattle.gh_stack.specs.Facts.{named}
 use Rattle.gh_wbuf.specs.RoomFinding as room
-use Rattle.gh_mutator.specs.declared.task.Task.TheVariants as task
-use Rattle.gh_poll.specs.declared.wait.WaitStage.TheVariants as wait_stage
-use Rattle.gh_mutator_heap.specs.Beside.{StepsOn, Together}
-use Rattle.gh_poll.specs.Collecting.{Resumed, RunPhase}
-use Rattle.gh_mutator.specs.Deeds.{acted}
 use Rattle.gh_poll.specs.Give as give
 use Rattle.gh_poll.specs.Leave as leave
-use Rattle.gh_mutator.specs.Listing.{acting, acts}
-use Rattle.gh_poll.specs.MarkFacts.{PollStageFacts, WaitStageFacts}
-use Rattle.gh_mutator.specs.MarkVocabulary.{Cycle, Held, StackMarking}
-use Rattle.gh_mutator_heap.specs.Vocabulary.{PollStage, WaitStage, Processor, Wait, Wanted, Ever, view}
+use Rattle.gh_mutator.specs.MarkVocabulary.{StackMarking}
 use Rattle.gh_mutator.specs.New as new
 use Rattle.gh_poll.specs.Poll as poll
-use Rattle.gh_mutator.specs.Processor.{at_task}
-use Rattle.gh_mutator.specs.ProcessorMarks.{MarkFacts, only_polls, TaskFacts}
-use Rattle.gh_mutator.specs.Vocabulary.{Answer, cell_of, Layout, Leaving, Op, Polling, Shape, Value, Waiting}
 use Rattle.gh_poll.specs.Wait as wait
 use Rattle.gh_mutator_heap.proofs.Going.Known.{by_marking, found_there, goes_on, heap_then, Known, processor_then, StepAt, StepOf}
-use Rattle.gh_mutator_heap.proofs.Vocabulary.{after_gc, after_leave, after_poll, asks, takes, WaitState}
 
 -- No slot is being filled.
 -- What a step of a poll leaves: the registers, and of the notes of stacks none says that its goroutine has ended.
@@ -73,14 +50,14 @@ module _ (z : Cycle) where
   poll_leaves a s p q found x = grind (arith, leaves_so, marked_leaves, same_phases, same_resumed, same_room, same_stops)
 
   wait_leaves : (a : ℕ) (s : Marking) (w : Waiting) (q : WaitStage) (found : ℕ) → WaitStageFacts z a s w.poll q → Leaves w.poll (wait.goes_at z.arena.layout w q found).poll
-  wait_leaves a s w wait_stage.Want found x = leaves_so w.poll _ (refl, refl)
-  wait_leaves a s w wait_stage.Polling found x = by (poll.goes z.arena.layout w.poll found) (poll.gives z.arena.layout w.poll found) (poll_leaves a s w.poll w.poll.stage found x.stage_is) where
+  wait_leaves a s w WaitStage.Want found x = leaves_so w.poll _ (refl, refl)
+  wait_leaves a s w WaitStage.Polling found x = by (poll.goes z.arena.layout w.poll found) (poll.gives z.arena.layout w.poll found) (poll_leaves a s w.poll w.poll.stage found x.stage_is) where
     by : (p : Polling) (out : Option (Unit {0})) → Leaves w.poll p → Leaves w.poll (wait.after_poll w p out).poll
     by p out k = grind arith
-  wait_leaves a s w wait_stage.LoadSwept found x = by (wait.is_later w.wait.known found) where
-    by : (later : Bool) → Leaves w.poll (cond later (wait.at_stage w wait_stage.Ended) (wait.polling w)).poll
+  wait_leaves a s w WaitStage.LoadSwept found x = by (wait.is_later w.wait.known found) where
+    by : (later : Bool) → Leaves w.poll (cond later (wait.at_stage w WaitStage.Ended) (wait.polling w)).poll
     by later = grind arith
-  wait_leaves a s w wait_stage.Ended found x = leaves_so w.poll _ (refl, refl)
+  wait_leaves a s w WaitStage.Ended found x = leaves_so w.poll _ (refl, refl)
 
 -- an operation that changes nothing in the heap that never frees
 pub acted_same : (shapes : List Shape) (e : Ever) (o : Op) → acted shapes e (acting true o false) ≡ e → (b : Bool) → acted shapes e (acting b o false) ≡ e
@@ -102,14 +79,14 @@ module _ (k : Known) (z : Cycle) (a : ℕ) (h : Heap) (s : Marking) (m : Process
     facts : MarkFacts z a land.then then
     facts = subst (λ (n : ℕ). MarkFacts z a land.then (takes z.arena.layout z.arena.shapes m n)) (ap (λ (w : Words). w (cell_of (asks z.arena.layout m))) t.beside.words) land.after
 
-    on : (g : ℕ) → heap.GoroutineRuns z.arena (view h) a g → land.then.words (cell.Scanned g) ≢ END
+    on : (g : ℕ) → heap.GoroutineRuns z.arena (view h) a g → land.then.words (Cell.Scanned g) ≢ END
     on g runs e = leaves.notes g (λ noted. goes_on k z a h s m pending t l g runs (sym (t.facts.stacks.noted g runs.of) ∙ noted)) (facts.stacks.noted g runs.of ∙ e)
 
     registers : (g d : ℕ) → heap.GoroutineRuns z.arena (view h) a g → d < REGISTERS → land.then.registers g d ≡ s.registers g d
     registers g d runs low =
         let was = t.facts.stacks.registers g runs.of (goes_on k z a h s m pending t l g runs) in
         let now = facts.stacks.registers g runs.of (on g runs) in
-        now.each d (subst (λ (n : ℕ). d < n) (sym now.whole) low) ∙ ap (λ (rows : List (List Value)). named (slice_index_or (slice_index_or rows g []) d value.Nil)) leaves.stacks ∙ sym (was.each d (subst (λ (n : ℕ). d < n) (sym was.whole) low))
+        now.each d (subst (λ (n : ℕ). d < n) (sym now.whole) low) ∙ ap (λ (rows : List (List Value)). named (slice_index_or (slice_index_or rows g []) d Value.Nil)) leaves.stacks ∙ sym (was.each d (subst (λ (n : ℕ). d < n) (sym was.whole) low))
 
 -- By tasks.
 module _ (z : Cycle) (a : ℕ) (u : Marking) (m : Processor) where
@@ -137,22 +114,22 @@ module _ (z : Cycle) (a : ℕ) (u : Marking) (m : Processor) where
   left_fills : (x : Leaving) (out : Option (Unit {0})) → TaskFacts z a u (after_leave m x out).poll (after_leave m x out).task → FillsNone a u
   left_fills x out f = grind arith
 
-pub poll_step : Known → StepAt task.Poll
+pub poll_step : Known → StepAt Task.Poll
 poll_step k z a h s m pending t kn l =
     let n : ℕ = h.words (cell_of (poll.asks m.poll)) in
-    polled k z a h s (at_task m task.Poll) pending t l refl (acted_same z.arena.shapes h.ever op.Poll refl (is_some (poll.gives z.arena.layout m.poll n)))
-    (polled_leaves z a s (at_task m task.Poll) (poll.goes z.arena.layout m.poll n) (poll.gives z.arena.layout m.poll n) (poll_leaves z a s m.poll m.poll.stage n t.facts.task_is.stage_is))
-    (λ u. polled_fills z a u (at_task m task.Poll) (poll.goes z.arena.layout m.poll n) (poll.gives z.arena.layout m.poll n))
+    polled k z a h s (at_task m Task.Poll) pending t l refl (acted_same z.arena.shapes h.ever Op.Poll refl (is_some (poll.gives z.arena.layout m.poll n)))
+    (polled_leaves z a s (at_task m Task.Poll) (poll.goes z.arena.layout m.poll n) (poll.gives z.arena.layout m.poll n) (poll_leaves z a s m.poll m.poll.stage n t.facts.task_is.stage_is))
+    (λ u. polled_fills z a u (at_task m Task.Poll) (poll.goes z.arena.layout m.poll n) (poll.gives z.arena.layout m.poll n))
 
-pub gc_step : Known → (g : ℕ) (x : WaitState) → StepAt (task.Gc g x)
+pub gc_step : Known → (g : ℕ) (x : WaitState) → StepAt (Task.Gc g x)
 gc_step k g x z a h s m pending t kn l =
     let w : Waiting = wait.waiting x m.poll in
     let n : ℕ = h.words (cell_of (wait.asks w)) in
-    polled k z a h s (at_task m (task.Gc g x)) pending t l refl (acted_same z.arena.shapes h.ever (op.Gc g) refl (is_some (wait.gives z.arena.layout w n)))
-    (gc_leaves z a s (at_task m (task.Gc g x)) g (wait.goes z.arena.layout w n) (wait.gives z.arena.layout w n) (wait_leaves z a s w x.stage n t.facts.task_is))
-    (λ u. gc_fills z a u (at_task m (task.Gc g x)) g (wait.goes z.arena.layout w n) (wait.gives z.arena.layout w n))
+    polled k z a h s (at_task m (Task.Gc g x)) pending t l refl (acted_same z.arena.shapes h.ever (Op.Gc g) refl (is_some (wait.gives z.arena.layout w n)))
+    (gc_leaves z a s (at_task m (Task.Gc g x)) g (wait.goes z.arena.layout w n) (wait.gives z.arena.layout w n) (wait_leaves z a s w x.stage n t.facts.task_is))
+    (λ u. gc_fills z a u (at_task m (Task.Gc g x)) g (wait.goes z.arena.layout w n) (wait.gives z.arena.layout w n))
 
-pub wait_step : Known → (v : Wanted) (x : WaitState) → StepAt (task.New (record { wanted = v; stage = Wait x }))
+pub wait_step : Known → (v : Wanted) (x : WaitState) → StepAt (Task.New (record { wanted = v; stage = Wait x }))
 wait_step k v x z a h s m pending t kn l =
     let w : Waiting = wait.waiting x m.poll in
     let n : ℕ = h.words (cell_of (wait.asks w)) in
@@ -160,9 +137,9 @@ wait_step k v x z a h s m pending t kn l =
     (new_leaves z a s (at_task m (new.waits v w)) v (wait.goes z.arena.layout w n) (wait.gives z.arena.layout w n) (wait_leaves z a s w x.stage n t.facts.task_is))
     (λ u. new_fills z a u (at_task m (new.waits v w)) v (wait.goes z.arena.layout w n) (wait.gives z.arena.layout w n))
 
-pub leave_step : Known → (x : Leaving) → StepAt (task.Leave x)
+pub leave_step : Known → (x : Leaving) → StepAt (Task.Leave x)
 leave_step k x z a h s m pending t kn l =
     let n : ℕ = h.words (cell_of (leave.asks x)) in
-    polled k z a h s (at_task m (task.Leave x)) pending t l refl (acted_same z.arena.shapes h.ever op.Leave refl (is_some (leave.gives x n)))
-    (left_leaves z a s (at_task m (task.Leave x)) (leave.goes x n) (leave.gives x n))
-    (λ u. left_fills z a u (at_task m (task.Leave x)) (leave.goes x n) (leave.gives x n))
+    polled k z a h s (at_task m (Task.Leave x)) pending t l refl (acted_same z.arena.shapes h.ever Op.Leave refl (is_some (leave.gives x n)))
+    (left_leaves z a s (at_task m (Task.Leave x)) (leave.goes x n) (leave.gives x n))
+    (λ u. left_fills z a u (at_task m (Task.Leave x)) (leave.goes x n) (leave.gives x n))

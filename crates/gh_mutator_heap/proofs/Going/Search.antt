@@ -1,25 +1,8 @@
 -- Steps of the search for a slot beside marking: they are on the lock and on page words, or load. A slot that is found is to be marked before its object is made.
 use Rattle.std.proofs.Common.{◌≡◌, ℕ, Bool, true, false, Option, Some, None, refl, sym, ap, subst, ◌∙◌, arith}
-use Rattle.gh_base.specs.declared.operation.Op.TheVariants as op
+use Rattle.gh_mutator_heap.proofs.Vocabulary.{acted, acting, after_search, Answer, At, at_task, cache_span, cell_of, Cycle, EverValue, FillsNone, Found, from_nil, Hands, Heap, holding_only, is_mark, IsQuietInMarking, KnowsStacks, Layout, Mark, Marking, NoRoom, Op, Processor, refuses_behind_wait, searches, Seeking, Sets, StepsOn, TaskFacts, Together, Wanted}
 use Rattle.gh_alloc.specs.Search as search
-use Rattle.gh_cycle.specs.Beside.{FillsNone}
-use Rattle.gh_cycle.specs.Deeds.{from_nil, Rests, Sets}
-use Rattle.gh_heap.specs.Rights.{Shared as Heap}
-use Rattle.gh_marks.specs.Colours.{Shared as Marking}
-use Rattle.gh_marks.specs.Moves.{IsQuietInMarking}
-use Rattle.gh_model.specs.declared.EverValue.TheVariants as ever
-use Rattle.gh_phase.specs.declared.view.RunPhase.TheVariants.{Mark}
-use Rattle.gh_mutator_heap.specs.Beside.{StepsOn, Together}
-use Rattle.gh_mutator.specs.Deeds.{acted}
-use Rattle.gh_mutator.specs.Listing.{acting}
-use Rattle.gh_poll.specs.Local.{is_mark}
-use Rattle.gh_poll.specs.MarkFacts.{holding_only, KnowsStacks}
-use Rattle.gh_mutator.specs.MarkVocabulary.{Cycle, Hands}
-use Rattle.gh_mutator.specs.New.{after_search, refuses_behind_wait, searches}
-use Rattle.gh_mutator.specs.Processor.{at_task, cache_span}
-use Rattle.gh_mutator.specs.ProcessorMarks.{TaskFacts}
-use Rattle.gh_mutator.specs.Vocabulary.{Answer, At, Found, Layout, NoRoom, Op, Seeking, cell_of}
-use Rattle.gh_mutator_heap.specs.Vocabulary.{Processor, Wanted}
+use Rattle.gh_cycle.specs.Deeds.{Rests}
 use Rattle.gh_mutator_heap.proofs.Going.Known.{by_deed, fills_none, found_there, heap_then, Known, processor_then, StepAt, StepOf}
 
 -- where it sweeps no span it writes no word which marking reads
@@ -35,7 +18,7 @@ module _ (k : Known) (v : Wanted) (waited : Bool) (y : Seeking) (z : Cycle) (a :
     n = found_there k z a h s here pending t l
 
     abbrev op_now : Op
-    op_now = op.New v.g v.d v.t
+    op_now = Op.New v.g v.d v.t
 
     abbrev Goes : Type 0
     Goes = StepsOn z a (heap_then k z a h s here pending t l) s (processor_then k z a h s here pending t l)
@@ -65,7 +48,7 @@ module _ (k : Known) (v : Wanted) (waited : Bool) (y : Seeking) (z : Cycle) (a :
         (quiet, fills) (λ u hands stacks. knows_at o e f u (hands (holding_only m.poll.local.held) t.facts.task_is.hands) stacks)
 
     refused : search.gives z.arena.layout y n ≡ Some NoRoom → waited ≡ true → Goes
-    refused e last = by_deed k z a h s here pending t l (Sets v.g v.d ever.Nil) tt
+    refused e last = by_deed k z a h s here pending t l (Sets v.g v.d EverValue.Nil) tt
         (ap (λ (x : Option Found). acted z.arena.shapes h.ever (acting (refuses_behind_wait waited x) op_now true)) e ∙ ap (λ (b : Bool). acted z.arena.shapes h.ever (acting (refuses_behind_wait b (Some NoRoom)) op_now true)) last)
         (quiet, fills, t.fine.task.wants.runs, t.fine.task.wants.register, from_nil)
         (λ u hands stacks. knows_at (Some NoRoom) e (nil waited last) u (hands (holding_only m.poll.local.held) t.facts.task_is.hands) stacks) where

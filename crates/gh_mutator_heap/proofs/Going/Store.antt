@@ -1,46 +1,11 @@
 -- Steps of a store beside marking. A pointer is written behind the barrier; without it a number alone is.
 use Rattle.std.proofs.Common.{◌≡◌, ℕ, ◌+◌, ◌*◌, ◌%◌, ◌<◌, Bool, true, false, cond, Option, None, inr, refl, sym, ap, subst, ◌∙◌, arith}
 use Rattle.std.proofs.lemmas.Bool.{lt-ltb}
-use Rattle.gh_base.specs.declared.cell.Ask.TheVariants as ask
-use Rattle.gh_base.specs.declared.cell.Cell.{Cell}
-use Rattle.gh_base.specs.declared.cell.Cell.TheVariants as cell
-use Rattle.gh_base.specs.declared.value.Answer.TheVariants as answer
-use Rattle.gh_base.specs.declared.value.Fault.TheVariants as fault
-use Rattle.gh_base.specs.Cells.{Words}
-use Rattle.gh_base.specs.Rows.{mark_words}
+use Rattle.gh_mutator_heap.proofs.Vocabulary.{acted, acting, Answer, applied, Ask, at_task, BehindBarrier, Cell, Cycle, ends, Ever, EverValue, Facts, Fault, fits, goes_on, has_field, Heap, held_then, holding_only, Holds, is_number_value, is_pointer_by, IsBetween, IsClean, keeping, Keeps, kinds_differ, KnowsAtAnyTime, Mark, mark_words, MarkFacts, Marking, MayWrite, Means, Name, nothing, pointer_cell_at, PointerCell, PointerWrite, points, Processor, Puts, Reach, register_of, size_for, stacks_last, Step, StepsOn, Store, store_answer, Stores, stores, stores_value, StoreStage, Task, Together, Value, view, with_field, word_of_value, Words, WriteStage, written}
 use Rattle.gh_barrier.specs.Giving as write_on
-use Rattle.gh_barrier.specs.declared.pointer_cell.PointerCell.{PointerCell}
-use Rattle.gh_barrier.specs.declared.write_pointer.WriteStage.{WriteStage}
-use Rattle.gh_barrier.specs.declared.write_pointer.WriteStage.TheVariants as write_stage
-use Rattle.gh_barrier.specs.Facts.{Facts}
-use Rattle.gh_barrier.specs.Listing.{Writing as PointerWrite}
 use Rattle.gh_barrier.specs.Listing as write
-use Rattle.gh_cycle.specs.Deeds.{Puts}
-use Rattle.gh_heap.specs.Moves.{MayWrite}
-use Rattle.gh_heap.specs.Rights.{Shared as Heap}
-use Rattle.gh_marks.specs.Colours.{IsClean, Shared as Marking}
-use Rattle.gh_marks.specs.Moves.{BehindBarrier}
-use Rattle.gh_model.specs.declared.EverValue.TheVariants as ever
-use Rattle.gh_model.specs.Ever.{from_register, store_answer, stores_value, with_field}
-use Rattle.gh_phase.specs.declared.view.RunPhase.TheVariants.{Mark}
-use Rattle.gh_mutator.specs.declared.store.StoreStage.TheVariants as stage
-use Rattle.gh_mutator.specs.declared.task.Task.TheVariants as task
-use Rattle.gh_poll.specs.Barrier.{held_then, written}
-use Rattle.gh_mutator_heap.specs.Beside.{StepsOn, Together}
-use Rattle.gh_mutator.specs.Deeds.{acted}
-use Rattle.gh_mutator_heap.specs.Facts.{Stores}
-use Rattle.gh_poll.specs.Registers.{is_number_value}
-use Rattle.gh_mutator.specs.Fields.{has_field, is_pointer_by, kinds_differ, word_of_value}
-use Rattle.gh_mutator.specs.Listing.{acting, applied}
-use Rattle.gh_poll.specs.MarkFacts.{holding_only, IsBetween, stacks_last}
-use Rattle.gh_mutator.specs.MarkVocabulary.{Cycle, Keeps, nothing}
-use Rattle.gh_mutator_heap.specs.PollHeap.{KnowsAtAnyTime}
-use Rattle.gh_mutator.specs.Processor.{at_task, keeping, register_of}
-use Rattle.gh_mutator.specs.ProcessorMarks.{MarkFacts}
-use Rattle.gh_mutator.specs.Step.{ends, goes_on}
-use Rattle.gh_mutator.specs.Store.{after_write, at_stage, op_of, pointer_cell_at, step, stores}
-use Rattle.gh_mutator.specs.Vocabulary.{Answer, Name, Value}
-use Rattle.gh_mutator_heap.specs.Vocabulary.{Ever, EverValue, Fault, fits, Holds, Means, points, Reach, size_for, view, Processor, Step, Store, StoreStage}
+use Rattle.gh_model.specs.Ever.{from_register}
+use Rattle.gh_mutator.specs.Store.{after_write, at_stage, op_of, step}
 use Rattle.gh_mutator_heap.proofs.Going.Known.{by_deed, by_load, fills_none, found_there, heap_then, Known, processor_then, StepAt, StepOf}
 use Rattle.gh_mutator_heap.proofs.Going.Values.{is_pointer_there, Quits, quits_rests}
 use Rattle.gh_mutator_heap.proofs.Going.Writing.{kind_there, known_pointer, room_for_two, word_there, write_begins, write_fills, write_goes}
@@ -48,15 +13,15 @@ use Rattle.gh_mutator_heap.proofs.Owning.Barrier.{word_written}
 use Rattle.gh_mutator_heap.proofs.Owning.Objects.{register_reached, word_holds}
 
 abbrev at : Store → StoreStage → Processor → Processor
-at x q m = at_task m (task.Store (at_stage x q))
+at x q m = at_task m (Task.Store (at_stage x q))
 
 -- A fault changes nothing.
-fault_stays : (e : Ever) (v : EverValue) (k : ℕ) (w : EverValue) (f : Fault) → stores_value e v k w (answer.Fault f) ≡ e
+fault_stays : (e : Ever) (v : EverValue) (k : ℕ) (w : EverValue) (f : Fault) → stores_value e v k w (Answer.Fault f) ≡ e
 fault_stays e v k w f = grind arith
 
 -- the processor behind a step that writes nothing, where it goes on so or is over
 abbrev behind : Processor → Store → Step Store → Processor
-behind m x next = applied task.Store m x.g x.v next
+behind m x next = applied Task.Store m x.g x.v next
 
 module _ (k : Known) (x : Store) (z : Cycle) (a : ℕ) (h : Heap) (s : Marking) (m : Processor) (pending : Option Answer) where
   abbrev Ready : StoreStage → Type 0
@@ -71,32 +36,32 @@ module _ (k : Known) (x : Store) (z : Cycle) (a : ℕ) (h : Heap) (s : Marking) 
   over : (q : StoreStage) (t : Ready q) (b : IsBetween z a s m.poll.local) (y : Answer) → Behind (ends y)
   over q t b y = record { seat_is = t.facts.seat_is; stacks = b.stacks; task_is = b }
 
-  nil_base : (t : Ready stage.NilBase) (l : StepOf z a h (at x stage.NilBase m) pending) → Loads stage.NilBase t l
-  nil_base t l = by_load k z a h s (at x stage.NilBase m) pending t l
-      (quits_rests z.arena.shapes h.ever (op_of x) pending l.after.does.after (step z.arena.layout m.poll.local (register_of m x.g x.v) (at_stage x stage.NilBase) (found_there k z a h s (at x stage.NilBase m) pending t l)) (fault_stays h.ever (h.ever.register x.g x.b) x.k (h.ever.register x.g x.v)) t.fine.task.3 l.after.does.answers (inr (fault.NilBase, refl, refl)))
-      cell.Touch refl (fills_none a s (holding_only m.poll.local.held) refl t.facts.task_is.hands) (over stage.NilBase t t.facts.task_is (answer.Fault fault.NilBase))
+  nil_base : (t : Ready StoreStage.NilBase) (l : StepOf z a h (at x StoreStage.NilBase m) pending) → Loads StoreStage.NilBase t l
+  nil_base t l = by_load k z a h s (at x StoreStage.NilBase m) pending t l
+      (quits_rests z.arena.shapes h.ever (op_of x) pending l.after.does.after (step z.arena.layout m.poll.local (register_of m x.g x.v) (at_stage x StoreStage.NilBase) (found_there k z a h s (at x StoreStage.NilBase m) pending t l)) (fault_stays h.ever (h.ever.register x.g x.b) x.k (h.ever.register x.g x.v)) t.fine.task.3 l.after.does.answers (inr (Fault.NilBase, refl, refl)))
+      Cell.Touch refl (fills_none a s (holding_only m.poll.local.held) refl t.facts.task_is.hands) (over StoreStage.NilBase t t.facts.task_is (Answer.Fault Fault.NilBase))
 
-  module _ (t : Ready stage.Page) (l : StepOf z a h (at x stage.Page m) pending) where
-    page_quits : (b : Bool) → Quits (cond b (goes_on (at_stage x stage.Bits)) (ends (answer.Fault fault.Field)))
+  module _ (t : Ready StoreStage.Page) (l : StepOf z a h (at x StoreStage.Page m) pending) where
+    page_quits : (b : Bool) → Quits (cond b (goes_on (at_stage x StoreStage.Bits)) (ends (Answer.Fault Fault.Field)))
     page_quits b = grind arith
 
-    page_facts : (b : Bool) → Behind (cond b (goes_on (at_stage x stage.Bits)) (ends (answer.Fault fault.Field)))
+    page_facts : (b : Bool) → Behind (cond b (goes_on (at_stage x StoreStage.Bits)) (ends (Answer.Fault Fault.Field)))
     page_facts true = record { seat_is = t.facts.seat_is; stacks = t.facts.stacks; task_is = t.facts.task_is }
-    page_facts false = over stage.Page t t.facts.task_is.0 (answer.Fault fault.Field)
+    page_facts false = over StoreStage.Page t t.facts.task_is.0 (Answer.Fault Fault.Field)
 
-    page : Loads stage.Page t l
+    page : Loads StoreStage.Page t l
     page =
-        let n = found_there k z a h s (at x stage.Page m) pending t l in
-        by_load k z a h s (at x stage.Page m) pending t l
-        (quits_rests z.arena.shapes h.ever (op_of x) pending l.after.does.after (step z.arena.layout m.poll.local (register_of m x.g x.v) (at_stage x stage.Page) n) (fault_stays h.ever (h.ever.register x.g x.b) x.k (h.ever.register x.g x.v)) t.fine.task.unanswered l.after.does.answers (page_quits (has_field x.k n)))
+        let n = found_there k z a h s (at x StoreStage.Page m) pending t l in
+        by_load k z a h s (at x StoreStage.Page m) pending t l
+        (quits_rests z.arena.shapes h.ever (op_of x) pending l.after.does.after (step z.arena.layout m.poll.local (register_of m x.g x.v) (at_stage x StoreStage.Page) n) (fault_stays h.ever (h.ever.register x.g x.b) x.k (h.ever.register x.g x.v)) t.fine.task.unanswered l.after.does.answers (page_quits (has_field x.k n)))
         _ refl (fills_none a s (holding_only m.poll.local.held) refl t.facts.task_is.0.hands) (page_facts (has_field x.k n))
 
   -- The kind of the field is found: a pointer is written behind the barrier.
-  module _ (t : Ready stage.Bits) (l : StepOf z a h (at x stage.Bits m) pending) (on : m.poll.local.view.phase ≡ Mark) where
+  module _ (t : Ready StoreStage.Bits) (l : StepOf z a h (at x StoreStage.Bits m) pending) (on : m.poll.local.view.phase ≡ Mark) where
     abbrev held : Value
     held = register_of m x.g x.v
 
-    abbrev f : Stores z.arena a (view h) (at_stage x stage.Bits) pending
+    abbrev f : Stores z.arena a (view h) (at_stage x StoreStage.Bits) pending
     f = t.fine.task.0
 
     reach : Reach h.ever f.n
@@ -105,10 +70,10 @@ module _ (k : Known) (x : Store) (z : Cycle) (a : ℕ) (h : Heap) (s : Marking) 
     abbrev there : PointerCell
     there = pointer_cell_at z.arena.layout (x.at + x.k)
 
-    kinds : (p b : Bool) → Quits (cond b (ends (answer.Fault fault.Kind)) (goes_on (at_stage x (stores z.arena.layout m.poll.local held x p))))
+    kinds : (p b : Bool) → Quits (cond b (ends (Answer.Fault Fault.Kind)) (goes_on (at_stage x (stores z.arena.layout m.poll.local held x p))))
     kinds p b = grind arith
 
-    begun : points z.arena.shapes h.ever.type_of f.n x.k ≡ true → Behind (goes_on (at_stage x (stage.Writing (written m.poll.local there held))))
+    begun : points z.arena.shapes h.ever.type_of f.n x.k ≡ true → Behind (goes_on (at_stage x (StoreStage.Writing (written m.poll.local there held))))
     begun kind = record {
       seat_is = t.facts.seat_is;
       stacks = t.facts.stacks;
@@ -121,27 +86,27 @@ module _ (k : Known) (x : Store) (z : Cycle) (a : ℕ) (h : Heap) (s : Marking) 
     number_is : (p : Bool) → p ≡ false → kinds_differ p held ≡ false → is_number_value held ≡ true
     number_is p e same = grind arith
 
-    plain : is_number_value held ≡ true → Behind (goes_on (at_stage x stage.Field))
+    plain : is_number_value held ≡ true → Behind (goes_on (at_stage x StoreStage.Field))
     plain number = record { seat_is = t.facts.seat_is; stacks = t.facts.stacks; task_is = (t.facts.task_is.0, λ marks. number) }
 
     goes : (p : Bool) → points z.arena.shapes h.ever.type_of f.n x.k ≡ p → kinds_differ p held ≡ false → Behind (goes_on (at_stage x (stores z.arena.layout m.poll.local held x p)))
     goes p kind same = grind (arith, begun, number_is, plain)
 
-    bits_facts : (p b : Bool) → points z.arena.shapes h.ever.type_of f.n x.k ≡ p → kinds_differ p held ≡ b → Behind (cond b (ends (answer.Fault fault.Kind)) (goes_on (at_stage x (stores z.arena.layout m.poll.local held x p))))
-    bits_facts p true kind same = over stage.Bits t t.facts.task_is.0 (answer.Fault fault.Kind)
+    bits_facts : (p b : Bool) → points z.arena.shapes h.ever.type_of f.n x.k ≡ p → kinds_differ p held ≡ b → Behind (cond b (ends (Answer.Fault Fault.Kind)) (goes_on (at_stage x (stores z.arena.layout m.poll.local held x p))))
+    bits_facts p true kind same = over StoreStage.Bits t t.facts.task_is.0 (Answer.Fault Fault.Kind)
     bits_facts p false kind same = goes p kind same
 
-    bits : Loads stage.Bits t l
+    bits : Loads StoreStage.Bits t l
     bits =
-        let n = found_there k z a h s (at x stage.Bits m) pending t l in
+        let n = found_there k z a h s (at x StoreStage.Bits m) pending t l in
         let p : Bool = is_pointer_by z.arena.layout (x.at + x.k) n in
-        by_load k z a h s (at x stage.Bits m) pending t l
-        (quits_rests z.arena.shapes h.ever (op_of x) pending l.after.does.after (step z.arena.layout m.poll.local held (at_stage x stage.Bits) n) (fault_stays h.ever (h.ever.register x.g x.b) x.k (h.ever.register x.g x.v)) f.unanswered l.after.does.answers (kinds p (kinds_differ p held)))
+        by_load k z a h s (at x StoreStage.Bits m) pending t l
+        (quits_rests z.arena.shapes h.ever (op_of x) pending l.after.does.after (step z.arena.layout m.poll.local held (at_stage x StoreStage.Bits) n) (fault_stays h.ever (h.ever.register x.g x.b) x.k (h.ever.register x.g x.v)) f.unanswered l.after.does.answers (kinds p (kinds_differ p held)))
         _ refl (fills_none a s (holding_only m.poll.local.held) refl t.facts.task_is.0.hands)
         (bits_facts p (kinds_differ p held) (sym (kind_there k z a h s t.shapes t.heap t.marking t.beside f.n f.through.made reach x.k t.fine.task.1 x.at f.through.here)) refl)
 
 -- The field is written.
-store_kind : (z : Cycle) (e : Ever) (v w : EverValue) (n : Name) (k : ℕ) → v ≡ ever.Ref n → k < size_for z.arena.shapes e.type_of n → fits (points z.arena.shapes e.type_of n k) w ≡ true → store_answer z.arena.shapes e v k w ≡ answer.Done
+store_kind : (z : Cycle) (e : Ever) (v w : EverValue) (n : Name) (k : ℕ) → v ≡ EverValue.Ref n → k < size_for z.arena.shapes e.type_of n → fits (points z.arena.shapes e.type_of n k) w ≡ true → store_answer z.arena.shapes e v k w ≡ Answer.Done
 store_kind z e v w n k is few f = rw (is, lt-ltb k (size_for z.arena.shapes e.type_of n) few, f) refl
 
 module _ (k : Known) (x : Store) (z : Cycle) (a : ℕ) (h : Heap) (s : Marking) (m : Processor) (pending : Option Answer) (q : StoreStage) (t : Together z a h s (at x q m) pending) (f : Stores z.arena a (view h) (at_stage x q) pending) (few : x.k < size_for z.arena.shapes h.ever.type_of f.n) (fit : fits (points z.arena.shapes h.ever.type_of f.n x.k) (h.ever.register x.g x.v) ≡ true) (known : KnowsAtAnyTime z.arena a (view h) m.poll) where
@@ -158,7 +123,7 @@ module _ (k : Known) (x : Store) (z : Cycle) (a : ℕ) (h : Heap) (s : Marking) 
   means = known.registers x.g x.v f.through.runs.of f.register
 
   then_is : stores_value h.ever (h.ever.register x.g x.b) x.k stored (store_answer z.arena.shapes h.ever (h.ever.register x.g x.b) x.k stored) ≡ with_field h.ever f.n x.k stored
-  then_is = ap (λ (y : Answer). stores_value h.ever (h.ever.register x.g x.b) x.k stored y) (store_kind z h.ever (h.ever.register x.g x.b) stored f.n x.k f.through.names few fit) ∙ ap (λ (y : EverValue). stores_value h.ever y x.k stored answer.Done) f.through.names
+  then_is = ap (λ (y : Answer). stores_value h.ever (h.ever.register x.g x.b) x.k stored y) (store_kind z h.ever (h.ever.register x.g x.b) stored f.n x.k f.through.names few fit) ∙ ap (λ (y : EverValue). stores_value h.ever y x.k stored Answer.Done) f.through.names
 
   cell_there : (x.at + x.k) % (1024 * z.arena.layout.pages) ≡ h.place f.n + x.k
   cell_there = word_there k z a h s t.shapes t.heap t.marking t.beside f.n f.through.made reach_it x.k few x.at f.through.here
@@ -176,31 +141,31 @@ module _ (k : Known) (x : Store) (z : Cycle) (a : ℕ) (h : Heap) (s : Marking) 
 number_field : (v : EverValue) (y : Value) (h : Heap) (p : Bool) → Means h.place h.ever.made v y → is_number_value y ≡ true → fits p v ≡ true → p ≡ true → ⊥
 number_field v y h p means number fit kind = grind arith
 
-field : (k : Known) (x : Store) → StepAt (task.Store (at_stage x stage.Field))
+field : (k : Known) (x : Store) → StepAt (Task.Store (at_stage x StoreStage.Field))
 field k x z a h s m pending t kn l =
     let f = t.fine.task.0 in
     let few = t.fine.task.1 in
     let fit = t.fine.task.2 in
     let stands = t.fine.knows.stands in
-    by_deed k z a h s (at x stage.Field m) pending t l (Puts f.n x.k (h.ever.register x.g x.v) (word_of_value (register_of m x.g x.v))) tt (then_is k x z a h s m pending stage.Field t f few fit stands) (
-      ap (λ (i : ℕ). ask.Store (cell.Field i) (word_of_value (register_of m x.g x.v))) (cell_there k x z a h s m pending stage.Field t f few fit stands),
+    by_deed k z a h s (at x StoreStage.Field m) pending t l (Puts f.n x.k (h.ever.register x.g x.v) (word_of_value (register_of m x.g x.v))) tt (then_is k x z a h s m pending StoreStage.Field t f few fit stands) (
+      ap (λ (i : ℕ). Ask.Store (Cell.Field i) (word_of_value (register_of m x.g x.v))) (cell_there k x z a h s m pending StoreStage.Field t f few fit stands),
       fills_none a s (holding_only m.poll.local.held) refl t.facts.task_is.0.hands,
-      may k x z a h s m pending stage.Field t f few fit stands (word_of_value (register_of m x.g x.v)) refl,
-      λ kind. absurd (number_field (h.ever.register x.g x.v) (register_of m x.g x.v) h (points z.arena.shapes h.ever.type_of f.n x.k) (means k x z a h s m pending stage.Field t f few fit stands) (t.facts.task_is.1 (kn refl)) fit kind),
+      may k x z a h s m pending StoreStage.Field t f few fit stands (word_of_value (register_of m x.g x.v)) refl,
+      λ kind. absurd (number_field (h.ever.register x.g x.v) (register_of m x.g x.v) h (points z.arena.shapes h.ever.type_of f.n x.k) (means k x z a h s m pending StoreStage.Field t f few fit stands) (t.facts.task_is.1 (kn refl)) fit kind),
     )
     (λ u hands stacks. record { stacks = stacks; number = t.facts.task_is.0.number; hands = hands (holding_only m.poll.local.held) t.facts.task_is.0.hands })
 
 -- A step of its write before the last.
-module _ (k : Known) (x : Store) (w : PointerWrite) (z : Cycle) (a : ℕ) (h : Heap) (s : Marking) (m : Processor) (pending : Option Answer) (t : Together z a h s (at x (stage.Writing w) m) pending) (l : StepOf z a h (at x (stage.Writing w) m) pending) where
+module _ (k : Known) (x : Store) (w : PointerWrite) (z : Cycle) (a : ℕ) (h : Heap) (s : Marking) (m : Processor) (pending : Option Answer) (t : Together z a h s (at x (StoreStage.Writing w) m) pending) (l : StepOf z a h (at x (StoreStage.Writing w) m) pending) where
   abbrev me : Processor
-  me = at x (stage.Writing w) m
+  me = at x (StoreStage.Writing w) m
 
   abbrev n : ℕ
   n = found_there k z a h s me pending t l
 
   -- the processor behind the step, by whether that ends the write
   abbrev then : Option (Unit {0}) → Processor
-  then o = applied task.Store (keeping me (held_then z.arena.layout w n)) x.g x.v (after_write x (write.goes z.arena.layout w n) o)
+  then o = applied Task.Store (keeping me (held_then z.arena.layout w n)) x.g x.v (after_write x (write.goes z.arena.layout w n) o)
 
   written_then : (u : Marking) → Keeps z a s u → Facts z a u nothing (write.goes z.arena.layout w n) → MarkFacts z a u (then None)
   written_then u kept f = let stacks = stacks_last z a s u m.poll.local.stacks m.poll.local.scanned kept t.facts.stacks in record { seat_is = t.facts.seat_is; stacks = stacks; task_is = record { stacks = stacks; number = t.facts.task_is.number; writes = f } }
@@ -213,49 +178,49 @@ module _ (k : Known) (x : Store) (w : PointerWrite) (z : Cycle) (a : ℕ) (h : H
 -- Its last step: what stood there and what is written are shaded.
 module _ (k : Known) (x : Store) (w : PointerWrite) (z : Cycle) (a : ℕ) (h : Heap) (s : Marking) (m : Processor) (pending : Option Answer) where
   abbrev wrote : PointerWrite
-  wrote = write.at_stage w write_stage.Store
+  wrote = write.at_stage w WriteStage.Store
 
   abbrev it : Processor
-  it = at x (stage.Writing wrote) m
+  it = at x (StoreStage.Writing wrote) m
 
   module _ (t : Together z a h s it pending) (l : StepOf z a h it pending) where
     abbrev word : ℕ
     word = write.pointer_word w.pointer
 
-    abbrev fact : Stores z.arena a (view h) (at_stage x (stage.Writing wrote)) pending
+    abbrev fact : Stores z.arena a (view h) (at_stage x (StoreStage.Writing wrote)) pending
     fact = t.fine.task.0
 
     barrier : BehindBarrier s (s.words (write.cell_at w.at)) word
     barrier = k.writes.stores z a s nothing wrote refl t.facts.task_is.writes
 
-    cell_is : write.cell_at w.at ≡ cell.Field (h.place fact.n + x.k)
-    cell_is = ap write.cell_at t.fine.task.3.same_cell ∙ ap cell.Field (cell_there k x z a h s m pending (stage.Writing wrote) t fact t.fine.task.1 t.fine.task.2 t.fine.knows.stands)
+    cell_is : write.cell_at w.at ≡ Cell.Field (h.place fact.n + x.k)
+    cell_is = ap write.cell_at t.fine.task.3.same_cell ∙ ap Cell.Field (cell_there k x z a h s m pending (StoreStage.Writing wrote) t fact t.fine.task.1 t.fine.task.2 t.fine.knows.stands)
 
-    old : IsClean (mark_words s.words) (h.words (cell.Field (h.place fact.n + x.k)))
-    old = subst (λ (i : ℕ). IsClean (mark_words s.words) i) (ap s.words cell_is ∙ ap (λ (v : Words). v (cell.Field (h.place fact.n + x.k))) t.beside.words) barrier.old
+    old : IsClean (mark_words s.words) (h.words (Cell.Field (h.place fact.n + x.k)))
+    old = subst (λ (i : ℕ). IsClean (mark_words s.words) i) (ap s.words cell_is ∙ ap (λ (v : Words). v (Cell.Field (h.place fact.n + x.k))) t.beside.words) barrier.old
 
     puts : StepsOn z a (heap_then k z a h s it pending t l) s (processor_then k z a h s it pending t l)
-    puts = by_deed k z a h s it pending t l (Puts fact.n x.k (h.ever.register x.g x.v) word) tt (then_is k x z a h s m pending (stage.Writing wrote) t fact t.fine.task.1 t.fine.task.2 t.fine.knows.stands) (
-      ap (λ (c : Cell). ask.Store c word) cell_is,
+    puts = by_deed k z a h s it pending t l (Puts fact.n x.k (h.ever.register x.g x.v) word) tt (then_is k x z a h s m pending (StoreStage.Writing wrote) t fact t.fine.task.1 t.fine.task.2 t.fine.knows.stands) (
+      ap (λ (c : Cell). Ask.Store c word) cell_is,
       write_fills z a s wrote t.facts.task_is.writes,
-      may k x z a h s m pending (stage.Writing wrote) t fact t.fine.task.1 t.fine.task.2 t.fine.knows.stands word (word_written z.arena.layout (pointer_cell_at z.arena.layout (x.at + x.k)) (register_of m x.g x.v) wrote t.fine.task.3),
+      may k x z a h s m pending (StoreStage.Writing wrote) t fact t.fine.task.1 t.fine.task.2 t.fine.knows.stands word (word_written z.arena.layout (pointer_cell_at z.arena.layout (x.at + x.k)) (register_of m x.g x.v) wrote t.fine.task.3),
       λ kind. (old, barrier.new),
     )
         (λ u hands stacks. record { stacks = stacks; number = t.facts.task_is.number; hands = hands (holding_only w.held) t.facts.task_is.writes.stage_is.2 })
 
-write_at : Known → (x : Store) (w : PointerWrite) (q : WriteStage) → StepAt (task.Store (at_stage x (stage.Writing (write.at_stage w q))))
-write_at k x w write_stage.Store z a h s m pending t kn l = puts k x w z a h s m pending t l
-write_at k x w write_stage.LoadOld z a h s m pending t kn l = goes_before k x (write.at_stage w write_stage.LoadOld) z a h s m pending t l (write_on.load_gives_none z.arena.layout (write.at_stage w write_stage.LoadOld) (n k x (write.at_stage w write_stage.LoadOld) z a h s m pending t l))
-write_at k x w (write_stage.ShadeOld sh) z a h s m pending t kn l = goes_before k x (write.at_stage w (write_stage.ShadeOld sh)) z a h s m pending t l (write_on.old_gives_none z.arena.layout (write.at_stage w (write_stage.ShadeOld sh)) sh (n k x (write.at_stage w (write_stage.ShadeOld sh)) z a h s m pending t l))
-write_at k x w (write_stage.ShadeNew sh) z a h s m pending t kn l = goes_before k x (write.at_stage w (write_stage.ShadeNew sh)) z a h s m pending t l (write_on.new_gives_none z.arena.layout (write.at_stage w (write_stage.ShadeNew sh)) sh (n k x (write.at_stage w (write_stage.ShadeNew sh)) z a h s m pending t l))
-write_at k x w write_stage.Ended z a h s m pending t kn l = absurd (let busy = t.fine.task.3.busy in cc)
+write_at : Known → (x : Store) (w : PointerWrite) (q : WriteStage) → StepAt (Task.Store (at_stage x (StoreStage.Writing (write.at_stage w q))))
+write_at k x w WriteStage.Store z a h s m pending t kn l = puts k x w z a h s m pending t l
+write_at k x w WriteStage.LoadOld z a h s m pending t kn l = goes_before k x (write.at_stage w WriteStage.LoadOld) z a h s m pending t l (write_on.load_gives_none z.arena.layout (write.at_stage w WriteStage.LoadOld) (n k x (write.at_stage w WriteStage.LoadOld) z a h s m pending t l))
+write_at k x w (WriteStage.ShadeOld sh) z a h s m pending t kn l = goes_before k x (write.at_stage w (WriteStage.ShadeOld sh)) z a h s m pending t l (write_on.old_gives_none z.arena.layout (write.at_stage w (WriteStage.ShadeOld sh)) sh (n k x (write.at_stage w (WriteStage.ShadeOld sh)) z a h s m pending t l))
+write_at k x w (WriteStage.ShadeNew sh) z a h s m pending t kn l = goes_before k x (write.at_stage w (WriteStage.ShadeNew sh)) z a h s m pending t l (write_on.new_gives_none z.arena.layout (write.at_stage w (WriteStage.ShadeNew sh)) sh (n k x (write.at_stage w (WriteStage.ShadeNew sh)) z a h s m pending t l))
+write_at k x w WriteStage.Ended z a h s m pending t kn l = absurd (let busy = t.fine.task.3.busy in cc)
 
-store_at : Known → (x : Store) (q : StoreStage) → StepAt (task.Store (at_stage x q))
-store_at k x stage.Page z a h s m pending t kn l = page k x z a h s m pending t l
-store_at k x stage.Bits z a h s m pending t kn l = bits k x z a h s m pending t l (kn refl)
-store_at k x stage.Field z a h s m pending t kn l = field k x z a h s m pending t kn l
-store_at k x (stage.Writing w) z a h s m pending t kn l = write_at k x w w.stage z a h s m pending t kn l
-store_at k x stage.NilBase z a h s m pending t kn l = nil_base k x z a h s m pending t l
+store_at : Known → (x : Store) (q : StoreStage) → StepAt (Task.Store (at_stage x q))
+store_at k x StoreStage.Page z a h s m pending t kn l = page k x z a h s m pending t l
+store_at k x StoreStage.Bits z a h s m pending t kn l = bits k x z a h s m pending t l (kn refl)
+store_at k x StoreStage.Field z a h s m pending t kn l = field k x z a h s m pending t kn l
+store_at k x (StoreStage.Writing w) z a h s m pending t kn l = write_at k x w w.stage z a h s m pending t kn l
+store_at k x StoreStage.NilBase z a h s m pending t kn l = nil_base k x z a h s m pending t l
 
-pub store_step : Known → (x : Store) → StepAt (task.Store x)
+pub store_step : Known → (x : Store) → StepAt (Task.Store x)
 store_step k x = store_at k x x.stage

@@ -1,33 +1,18 @@
 -- What a statement's step changes in the heap that never frees, and the pointer fields of objects that a script reaches, beside marking.
 use Rattle.std.proofs.Common.{◌≡◌, ℕ, ◌/◌, ◌%◌, ◌<◌, Bool, true, false, eqb, ltb, List, [], ◌++◌, length, Option, Some, None, inl, inr, ◌⊎◌, refl, ap, subst, ◌∙◌, arith}
-use Rattle.std.specs.Int.{bit_at}
-use Rattle.std.specs.Option.{option_to_list}
 use Rattle.std.proofs.lemmas.Bool.{cases_Bool, ltb-true, ltb-false}
 use Rattle.std.proofs.lemmas.List.{get_or_past}
 use Rattle.std.proofs.lemmas.Nat.Bits.{bit_at-zero}
-use Rattle.gh_base.specs.declared.value.Answer.TheVariants as answer
-use Rattle.gh_base.specs.Shapes.{FitsShape, is_pointer, no_shape, shape_at}
-use Rattle.gh_cycle.specs.Beside.{IsBeside, IsOfCycle}
-use Rattle.gh_heap.specs.Rights.{Good as HeapGood, Shared as Heap}
-use Rattle.gh_marks.specs.Colours.{IsPointer, Shared as Marking}
-use Rattle.gh_mutator.specs.Deeds.{acted}
-use Rattle.gh_mutator_heap.specs.Facts.{answered_at, ShapesAreGood}
-use Rattle.gh_mutator.specs.Listing.{acting}
-use Rattle.gh_poll.specs.MarkFacts.{holding_only, IsBetween, KnowsNumber, KnowsStacks}
-use Rattle.gh_mutator.specs.MarkVocabulary.{Cycle, Hands}
-use Rattle.gh_poll.specs.Local.{with_value_if_any}
-use Rattle.gh_mutator.specs.Step.{answered}
-use Rattle.gh_mutator.specs.Vocabulary.{Answer, Name, Op, Polling, Shape, Value}
-use Rattle.gh_mutator_heap.specs.Vocabulary.{Ever, ever_after, Fault, IsMade, points, Reach, size_for, view, Step}
+use Rattle.gh_mutator_heap.proofs.Vocabulary.{acted, acting, Answer, answered, answered_at, bit_at, Cycle, Ever, ever_after, Fault, FitsShape, Hands, Heap, HeapGood, holding_only, is_pointer, IsBeside, IsBetween, IsMade, IsOfCycle, IsPointer, KnowsNumber, KnowsStacks, Marking, Name, no_shape, Op, option_to_list, points, Polling, Reach, Shape, shape_at, ShapesAreGood, size_for, Step, Value, view, with_value_if_any}
 
 -- The heap that never frees.
 
 -- the step goes on, or it ends the statement with a fault
 abbrev pub Quits : {S : Type 0} → Step S → Type 0
-Quits step = (step.acts ≡ false) ⊎ ((f : Fault) × (step.acts ≡ true) × (answered step.then ≡ Some (answer.Fault f)))
+Quits step = (step.acts ≡ false) ⊎ ((f : Fault) × (step.acts ≡ true) × (answered step.then ≡ Some (Answer.Fault f)))
 
 -- then nothing changes
-pub quits_rests : {S : Type 0} (shapes : List Shape) (e : Ever) (o : Op) (pending after : Option Answer) (step : Step S) → ((f : Fault) → ever_after shapes e o (answer.Fault f) ≡ e) → pending ≡ None →
+pub quits_rests : {S : Type 0} (shapes : List Shape) (e : Ever) (o : Op) (pending after : Option Answer) (step : Step S) → ((f : Fault) → ever_after shapes e o (Answer.Fault f) ≡ e) → pending ≡ None →
     option_to_list (answered_at shapes e (acting step.acts o false)) ++ option_to_list pending ≡ option_to_list after ++ option_to_list (answered step.then) → Quits step → acted shapes e (acting step.acts o false) ≡ e
 quits_rests shapes e o pending after step stays none all h = grind arith
 

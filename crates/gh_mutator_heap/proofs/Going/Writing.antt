@@ -1,32 +1,8 @@
 -- A write behind the barrier, beside marking: where it begins, its steps before the last, and what it has in hand.
 use Rattle.std.proofs.Common.{◌≡◌, ℕ, ◌+◌, ◌*◌, ◌/◌, ◌%◌, ◌<◌, Bool, true, eqb, Option, refl, sym, ap, subst, ◌∙◌, arith}
-use Rattle.std.specs.Int.{bit_at}
-use Rattle.std.proofs.Math.Nat.{mod-eq_of_lt}
-use Rattle.gh_base.specs.declared.cell.Ask.{Ask}
-use Rattle.gh_base.specs.declared.cell.Cell.TheVariants as cell
-use Rattle.gh_base.specs.Cells.{Words}
-use Rattle.gh_base.specs.Packing.{bit}
-use Rattle.gh_base.specs.Steps.{effect}
-use Rattle.gh_barrier.specs.declared.pointer_cell.PointerCell.{PointerCell}
-use Rattle.gh_barrier.specs.Facts.{Facts, IsCell, IsKnownPointer}
+use Rattle.gh_mutator_heap.proofs.Vocabulary.{acted, acts, Answer, Ask, asks, bit, bit_at, Cell, cell_of, Cycle, effect, EverValue, Facts, FillsNone, has_entries, HasTwo, Heap, HeapGood, is_pointer_by, IsBeside, IsBetween, IsCell, IsKnownPointer, IsMade, IsReached, IsWriting, Keeps, Mark, MarkFacts, Marking, Means, mod-eq_of_lt, Name, nothing, pointer_of, PointerCell, points, Polling, Processor, Reach, ShapesAreGood, size_for, StepsOn, Together, Value, view, Words, Writing, written}
 use Rattle.gh_barrier.specs.Listing as write
-use Rattle.gh_barrier.specs.Listing.{Writing}
-use Rattle.gh_barrier.specs.Sound.{HasTwo}
-use Rattle.gh_cycle.specs.Beside.{FillsNone, IsBeside}
-use Rattle.gh_heap.specs.Rights.{Good as HeapGood, Shared as Heap}
-use Rattle.gh_marks.specs.Colours.{Shared as Marking}
-use Rattle.gh_phase.specs.declared.view.RunPhase.TheVariants.{Mark}
-use Rattle.gh_poll.specs.Barrier.{has_entries, pointer_of, written}
-use Rattle.gh_mutator_heap.specs.Beside.{StepsOn, Together}
-use Rattle.gh_mutator.specs.Deeds.{acted}
-use Rattle.gh_mutator_heap.specs.Facts.{ShapesAreGood}
-use Rattle.gh_mutator.specs.Fields.{is_pointer_by}
-use Rattle.gh_mutator.specs.Listing.{acts, asks}
-use Rattle.gh_poll.specs.MarkFacts.{IsBetween}
-use Rattle.gh_mutator.specs.MarkVocabulary.{Cycle, Good, Keeps, KnowsObjects, nothing, Steps}
-use Rattle.gh_mutator.specs.ProcessorMarks.{IsWriting, MarkFacts}
-use Rattle.gh_mutator.specs.Vocabulary.{Answer, cell_of, Name, Polling, Value}
-use Rattle.gh_mutator_heap.specs.Vocabulary.{EverValue, IsMade, IsReached, Means, points, Reach, size_for, view, Processor}
+use Rattle.gh_mutator.specs.MarkVocabulary.{Good, KnowsObjects, Steps}
 use Rattle.gh_mutator_heap.proofs.Going.Known.{by_keeping, found_there, heap_then, Known, processor_then, StepOf}
 use Rattle.gh_mutator_heap.proofs.Going.Values.{of_cycle}
 
@@ -55,9 +31,9 @@ module _ (k : Known) (z : Cycle) (a : ℕ) (h : Heap) (s : Marking) (shapes : Sh
     pub word_there : (at : ℕ) → at ≡ h.place n → (at + i) % (1024 * z.arena.layout.pages) ≡ h.place n + i
     word_there at here = rw here (mod-eq_of_lt below)
 
-    pub kind_there : (at : ℕ) → at ≡ h.place n → is_pointer_by z.arena.layout (at + i) (h.words (cell.Bitmap ((at + i) / 64 % (16 * z.arena.layout.pages)))) ≡ points z.arena.shapes h.ever.type_of n i
+    pub kind_there : (at : ℕ) → at ≡ h.place n → is_pointer_by z.arena.layout (at + i) (h.words (Cell.Bitmap ((at + i) / 64 % (16 * z.arena.layout.pages)))) ≡ points z.arena.shapes h.ever.type_of n i
     kind_there at here = rw here (bit_is (points z.arena.shapes h.ever.type_of n i) _
-        (ap (λ (j : ℕ). bit_at (h.words (cell.Bitmap j)) ((h.place n + i) % 64)) (mod-eq_of_lt (let b = below in omega arith))
+        (ap (λ (j : ℕ). bit_at (h.words (Cell.Bitmap j)) ((h.place n + i) % 64)) (mod-eq_of_lt (let b = below in omega arith))
         ∙ sym (k.rows.bit_of (view h).bitmap ((h.place n + i) / 64) (h.place n + i) refl) ∙ good.pointers n i made (good.reached n reach) few))
 
   -- what is written is nil, or an object of the cycle

@@ -1,28 +1,18 @@
 -- Each step of the giving back is a move that its seat may make, and what is known at each stage holds then and lasts.
-use Rattle.std.proofs.Common.{◌≡◌, ℕ, zero, suc, ◌+◌, ◌-◌, ◌<◌, ◌≤◌, Bool, true, false, cond, eqb, List, [], ◌∷◌, drop, length, Option, Some, None, refl, sym, ap, subst, ◌∙◌, arith}
-use Rattle.std.specs.Prelude.{◌||◌, slice_index_or}
+use Rattle.std.proofs.Common.{◌≡◌, ℕ, zero, suc, ◌+◌, ◌-◌, ◌<◌, ◌≤◌, Bool, true, false, cond, eqb, List, [], ◌∷◌, drop, length, Option, Some, None, refl, sym, ap, subst, ◌∙◌, arith, ◌||◌, slice_index_or}
 use Rattle.std.proofs.lemmas.Bool.{eqb-true}
 use Rattle.std.proofs.lemmas.List.{drop-drop, drop_more, get_or-drop, length-drop}
+use Rattle.gh_mutator_heap.proofs.Vocabulary.{Arena, CachedSpan, CachesAll, CachesFrom, Cell, cell_of, Disown, first_cached, FitsClass, give_held, give_held_at, give_locked, give_locked_at, GiveFacts, given_head, GivesSpan, GiveStageFacts, Giving, giving_buffer, goes, goes_at, Good, Has, head_store, head_word, Held, InRange, IsCached, IsHeld, IsQuiet, Lands, LeaveLock, lists, May, moved, no_page, none_cached, opening, Others, owned_by, pages_of, put, Quiet, Shared, SizeClass, SoundGiveStage, span_class, SPAN_CLASSES, SpanClass, SpanHead, stage_from, Steps, TakeLock, View, view}
 use Rattle.gh_base.specs.declared.cell.Ask.TheVariants.{Load, Store}
-use Rattle.gh_base.specs.declared.cell.Cell.TheVariants as cell
-use Rattle.gh_base.specs.Cells.{InRange, put}
-use Rattle.gh_base.specs.Packing.{head_word}
-use Rattle.gh_class.specs.declared.class.SizeClass.TheVariants as size
-use Rattle.gh_heap.specs.Moves.{Disown, IsQuiet, Lands, LeaveLock, May, Others, Quiet, TakeLock, moved}
-use Rattle.gh_heap.specs.Spans.{FitsClass, owned_by}
-use Rattle.gh_alloc.specs.Find.{given_head}
 use Rattle.gh_wbuf.specs.BufferGiving as buffer
 use Rattle.gh_wbuf.specs.declared.give_buffer.GiveStage.{GiveStage as BufferStage}
-use Rattle.gh_wbuf.specs.Sound.{SoundGiveStage}
 use Rattle.gh_poll.specs.Giving.{GivingFacts, opening_fine}
 use Rattle.gh_poll.specs.Stays.{lock_leads}
 use Rattle.gh_mutator_heap.proofs.Holding.Known.{HoldsSwept, Kept, Known, by_move, by_quiet, caches_kept, caches_last, holds_swept}
-use Rattle.gh_mutator_heap.proofs.Holding.Lists.{caches_from, listed_once, lists_it, none_listed}
-use Rattle.gh_alloc.specs.FindFacts.{IsCached}
+use Rattle.gh_mutator_heap.proofs.Holding.Lists.{caches_from, listed_once, lists_it}
 use Rattle.gh_poll.specs.declared.give.GiveStage.TheVariants.{Lock, GiveSpan, Unlock, GiveBuffer, Ended}
-use Rattle.gh_poll.specs.Give.{Giving, asks, asks_at, at_stage, begins, first_cached, giving_buffer, goes, goes_at, head_store, is_busy, none_cached, opening, span_class, stage_from}
-use Rattle.gh_mutator_heap.specs.PollHeap.{CachesAll, CachesFrom, GiveFacts, GiveStageFacts, GivesSpan, Has, give_held, give_held_at, give_locked, give_locked_at, lists, no_page}
-use Rattle.gh_mutator_heap.proofs.Holding.Vocabulary.{Arena, CachedSpan, GiveStage, Good, Held, IsHeld, Shared, SpanClass, SpanHead, SPAN_CLASSES, Steps, View, cell_of, pages_of, view}
+use Rattle.gh_poll.specs.Give.{asks, asks_at, at_stage, begins}
+use Rattle.gh_mutator_heap.proofs.Holding.Vocabulary.{GiveStage}
 
 -- the giving back, with its rights
 pub record Gives (z : Arena) (a : ℕ) (v : View) (g : Giving) : Type 0 where
@@ -32,10 +22,6 @@ pub record Gives (z : Arena) (a : ℕ) (v : View) (g : Giving) : Type 0 where
 -- the rights where the same is held by other words
 pub has_same : (a : ℕ) (v : View) (l m : Bool) (h k : ℕ → Bool) → l ≡ m → ((p : ℕ) → h p ≡ k p) → Has a v l h → Has a v m k
 has_same a v l m h k e f r = record { locked = r.locked ∙ e; holds = λ p. r.holds p ∙ f p; laying = r.laying; freeing = r.freeing }
-
--- where nothing is cached nothing is held
-pub nothing_held : (a : ℕ) (v : View) (cache : List (Option CachedSpan)) → cache ≡ none_cached → Has a v false (lists cache) → Has a v false no_page
-nothing_held a v cache none has = has_same a v false false (lists cache) no_page refl (λ p. ap (λ (ks : List (Option CachedSpan)). lists ks p) none ∙ none_listed p) has
 
 abbrev no_span : Option CachedSpan
 no_span = None
@@ -83,10 +69,10 @@ module _ (z : Arena) (a : ℕ) (v : View) (seat generation : ℕ) (cache : List 
       record { has = has_same a v false (give_locked from) (lists cache) (give_held from) b.locked b.same has; facts = record { seat_is = seat_is; generation = known; room = room; held = is; stage_is = b.facts } }
 
 -- What is written says what the head says, but for its owner.
-head_is : (n : ℕ) (h : SpanHead) (c : SpanClass) → h.class ≡ size.Small c.class → h.noscan ≡ c.noscan → h.pages ≡ pages_of c.class → h.number ≡ n → owned_by 0 h ≡ given_head n c
+head_is : (n : ℕ) (h : SpanHead) (c : SpanClass) → h.class ≡ SizeClass.Small c.class → h.noscan ≡ c.noscan → h.pages ≡ pages_of c.class → h.number ≡ n → owned_by 0 h ≡ given_head n c
 head_is n h c class noscan pages number = rw (class, noscan, pages, number) refl
 
-small_pages : (h : SpanHead) (c : ℕ) → FitsClass h → h.class ≡ size.Small c → h.pages ≡ pages_of c
+small_pages : (h : SpanHead) (c : ℕ) → FitsClass h → h.class ≡ SizeClass.Small c → h.pages ≡ pages_of c
 small_pages h c fits class = grind arith
 
 -- what is held once a span is given back: what is listed behind it
@@ -113,23 +99,23 @@ module _ (k : Known) (z : Arena) (a : ℕ) where
               lists_it (drop class g.cache) (i - class) c.head c (get_or-drop class g.cache (i - class) no_span ∙ ap (λ (j : ℕ). slice_index_or g.cache j no_span) back ∙ at) refl
 
     locks : Has a (view s) false (lists g.cache) → CachesFrom a (view s) g.cache 0 → Leads Lock
-    locks has x = by (eqb (s.words cell.Lock) 0) refl where
-      by : (free : Bool) → eqb (s.words cell.Lock) 0 ≡ free → Lands z a s (cond free (put s.words cell.Lock (g.seat + 1)) s.words) (λ t. Kept a (view s) (view t) × Gives z a (view t) (goes_at g Lock (s.words cell.Lock)))
+    locks has x = by (eqb (s.words Cell.Lock) 0) refl where
+      by : (free : Bool) → eqb (s.words Cell.Lock) 0 ≡ free → Lands z a s (cond free (put s.words Cell.Lock (g.seat + 1)) s.words) (λ t. Kept a (view s) (view t) × Gives z a (view t) (goes_at g Lock (s.words Cell.Lock)))
       by true e = record {
         move = TakeLock;
-        may = eqb-true (s.words cell.Lock) 0 e;
-        words_are = ap (λ (b : ℕ). put s.words cell.Lock (b + 1)) (sym seat_is);
+        may = eqb-true (s.words Cell.Lock) 0 e;
+        words_are = ap (λ (b : ℕ). put s.words Cell.Lock (b + 1)) (sym seat_is);
         after =
-            let kept : Kept a (view s) (view (moved z a s TakeLock)) = record { objects = (refl, refl); own = k.own z a s TakeLock good (eqb-true (s.words cell.Lock) 0 e) } in
-            (kept, subst (λ (n : Giving). Gives z a (view (moved z a s TakeLock)) n) (sym (lock_leads g (s.words cell.Lock) true e)) (goes_from (moved z a s TakeLock) 0 kept (omega arith) x (k.follow z a s false (lists g.cache) None has).taken));
+            let kept : Kept a (view s) (view (moved z a s TakeLock)) = record { objects = (refl, refl); own = k.own z a s TakeLock good (eqb-true (s.words Cell.Lock) 0 e) } in
+            (kept, subst (λ (n : Giving). Gives z a (view (moved z a s TakeLock)) n) (sym (lock_leads g (s.words Cell.Lock) true e)) (goes_from (moved z a s TakeLock) 0 kept (omega arith) x (k.follow z a s false (lists g.cache) None has).taken));
       }
       by false e = record {
-        move = Quiet (Load cell.Lock);
+        move = Quiet (Load Cell.Lock);
         may = tt;
         words_are = refl;
         after = (
-          record { objects = (refl, refl); own = k.own z a s (Quiet (Load cell.Lock)) good tt },
-          subst (λ (n : Giving). Gives z a (view (moved z a s (Quiet (Load cell.Lock)))) n) (sym (lock_leads g (s.words cell.Lock) false e)) (record { has = has; facts = record { seat_is = seat_is; generation = known; room = room; held = is; stage_is = x } }),
+          record { objects = (refl, refl); own = k.own z a s (Quiet (Load Cell.Lock)) good tt },
+          subst (λ (n : Giving). Gives z a (view (moved z a s (Quiet (Load Cell.Lock)))) n) (sym (lock_leads g (s.words Cell.Lock) false e)) (record { has = has; facts = record { seat_is = seat_is; generation = known; room = room; held = is; stage_is = x } }),
         );
       }
 
@@ -163,14 +149,14 @@ module _ (k : Known) (z : Arena) (a : ℕ) where
 
       span_given : Leads (GiveSpan class c)
       span_given = by_move k z a s good (head_store g.generation class c) (Disown c.head head) (λ t. Kept a (view s) (view t) × Gives z a (view t) (at_stage g (stage_from g.cache (class + 1)))) may
-          (ap (λ (h : SpanHead). put s.words (cell.Page c.head) (head_word h)) written) (refl, refl)
+          (ap (λ (h : SpanHead). put s.words (Cell.Page c.head) (head_word h)) written) (refl, refl)
           (λ kept. (kept, goes_from then (class + 1) kept (omega (arith, x.among)) (λ i y after below at. x.caches i y (omega (arith, after)) below at) left))
 
     buffer_then : (t : Shared) (own : Option Held) → IsHeld z.layout own → g.held ≡ own → Kept a (view s) (view t) → Has a (view t) false no_page → Gives z a (view t) (record g { cache = none_cached; stage = giving_buffer own })
     buffer_then t own fits e kept has = grind arith
 
     unlocks : Has a (view s) true no_page → Leads Unlock
-    unlocks has = by_move k z a s good (Store cell.Lock 0) LeaveLock (λ t. Kept a (view s) (view t) × Gives z a (view t) (goes_at g Unlock (s.words cell.Lock))) (has.locked, has.laying, has.freeing) refl (refl, refl)
+    unlocks has = by_move k z a s good (Store Cell.Lock 0) LeaveLock (λ t. Kept a (view s) (view t) × Gives z a (view t) (goes_at g Unlock (s.words Cell.Lock))) (has.locked, has.laying, has.freeing) refl (refl, refl)
         (λ kept. (kept, buffer_then (moved z a s LeaveLock) g.held is refl kept (k.follow z a s true no_page None has).left))
 
     buffer_given : (b : buffer.BufferGiving) (q : BufferStage) → Has a (view s) false (lists g.cache) → g.cache ≡ none_cached → Steps z a s (buffer.asks_at q) (λ t. Kept a (view s) (view t) × Gives z a (view t) (record g { held = None; stage = Ended }))
@@ -184,7 +170,7 @@ module _ (k : Known) (z : Arena) (a : ℕ) where
     gives_at (GiveSpan class c) has x = span_given class c has x
     gives_at Unlock has x = unlocks has
     gives_at (GiveBuffer b) has x = buffer_given b b.stage has x.0
-    gives_at Ended has x = by_quiet k z a s good (Load cell.Touch) false (lists g.cache) (λ t. Kept a (view s) (view t) × Gives z a (view t) (at_stage g Ended)) tt has
+    gives_at Ended has x = by_quiet k z a s good (Load Cell.Touch) false (lists g.cache) (λ t. Kept a (view s) (view t) × Gives z a (view t) (at_stage g Ended)) tt has
         (λ t kept r. (kept, record { has = r; facts = record { seat_is = seat_is; generation = known ∙ sym kept.own.generation; room = room; held = is; stage_is = x } }))
 
   pub gives_on : (s : Shared) → Good z (view s) → (g : Giving) → Gives z a (view s) g → Steps z a s (asks g) (λ t. Kept a (view s) (view t) × Gives z a (view t) (goes g (s.words (cell_of (asks g)))))
@@ -218,6 +204,3 @@ gives_within_at z a v g Ended good x = tt
 
 pub gives_within : (z : Arena) (a : ℕ) (v : View) (g : Giving) → Good z v → GiveFacts z a v g → InRange z.layout (cell_of (asks g))
 gives_within z a v g good f = grind (arith, gives_within_at)
-
-pub nothing_left : (z : Arena) (a : ℕ) (v : View) (g : Giving) → is_busy g.stage ≡ false → Gives z a v g → Has a v false (lists g.cache) × (g.cache ≡ none_cached) × (g.held ≡ None)
-nothing_left z a v g over f = grind arith

@@ -1,25 +1,7 @@
 -- What a move of its own leaves to a processor, and what others leave: of its registers, and of the spans that it has cached.
-use Rattle.std.proofs.Common.{◌≡◌, ℕ, ◌+◌, ◌*◌, ◌/◌, ◌<◌, ◌≤◌, Bool, true, cond, List, [], length, Option, Some, None, refl, sym, ap, subst, ◌∙◌, arith}
-use Rattle.std.specs.Prelude.{slice_index_or}
-use Rattle.gh_base.specs.declared.cell.Ask.{Ask}
-use Rattle.gh_base.specs.declared.pack.PageWord.TheVariants as page
-use Rattle.gh_base.specs.declared.value.Value.{Value}
-use Rattle.gh_base.specs.Holding.{IsHeld}
-use Rattle.gh_base.specs.Rows.{row_bit}
-use Rattle.gh_base.specs.Steps.{effect}
-use Rattle.gh_class.specs.declared.class.SizeClass.TheVariants as size
-use Rattle.gh_model.specs.Ever.{Ever}
-use Rattle.gh_heap.specs.Laws.{EachMoveKeepsItsOwn, EachRightFollows, KeepsItsOwn}
-use Rattle.gh_heap.specs.Moves.{IsQuiet, KeepsObjects, KeepsTaken, May, Move, Others, Quiet, Steps, moved}
-use Rattle.gh_heap.specs.Objects.{Place}
-use Rattle.gh_heap.specs.Spans.{is_own_class, number_of_class, owner_at, owner_in}
+use Rattle.std.proofs.Common.{◌≡◌, ℕ, ◌+◌, ◌*◌, ◌/◌, ◌<◌, ◌≤◌, Bool, true, cond, List, [], length, Option, Some, None, refl, sym, ap, subst, ◌∙◌, arith, slice_index_or}
+use Rattle.gh_mutator_heap.proofs.Vocabulary.{Arena, Ask, CachedSpan, CachesAll, CachesFrom, EachMoveKeepsItsOwn, EachRightFollows, effect, Ever, Good, Has, is_own_class, IsCached, IsHeld, IsQuiet, KeepsGhosts, KeepsItsOwn, KeepsObjects, KeepsTaken, KnowsAtAnyTime, KnowsSpans, lists, May, Means, MOST_GOROUTINES, Move, moved, number_of_class, Others, owner_at, owner_in, page_of, PageWord, Place, Polling, Quiet, register_at, register_in_stacks, row_bit, Shared, SizeClass, slot_of, slots_of, span_at, SPAN_CLASSES, span_index, SpanClass, SpanHead, Steps, Value, View, view}
 use Rattle.gh_cache.specs.Listing.{slot_at}
-use Rattle.gh_alloc.specs.Find.{span_at}
-use Rattle.gh_alloc.specs.FindFacts.{IsCached}
-use Rattle.gh_poll.specs.Local.{register_at, register_in_stacks}
-use Rattle.gh_mutator_heap.specs.PollHeap.{CachesAll, CachesFrom, Has, KeepsGhosts, KnowsSpans, KnowsAtAnyTime, lists}
-use Rattle.gh_mutator.specs.Vocabulary.{CachedSpan, MOST_GOROUTINES, Polling, SizeClass, slots_of, SpanClass, span_index}
-use Rattle.gh_mutator_heap.specs.Vocabulary.{Arena, Good, Means, page_of, Shared, slot_of, SPAN_CLASSES, SpanHead, View, view}
 use Rattle.gh_mutator_heap.proofs.Holding.Lists.{lists_it}
 
 pub record Known : Type 0 where
@@ -45,7 +27,7 @@ stands_stopped z a v w p k s = stands_kept z a v w p (k.ever, k.place) s
 -- The spans that are held are swept.
 
 abbrev pub HoldsSwept : (a : ℕ) → View → Type 0
-HoldsSwept a v = (p : ℕ) (h : SpanHead) → v.holds a p ≡ true → page_of (v.page p) ≡ page.Head h → h.number ≡ v.generation
+HoldsSwept a v = (p : ℕ) (h : SpanHead) → v.holds a p ≡ true → page_of (v.page p) ≡ PageWord.Head h → h.number ≡ v.generation
 
 pub holds_swept : (z : Arena) (a : ℕ) (v : View) → Good z v → HoldsSwept a v
 holds_swept z a v good p h held head = (good.numbers p h head).owned (λ none. let is : owner_at v.page p ≡ h.owner = ap owner_in head in omega (arith, (good.owners a p).1 held, is, none))
@@ -54,10 +36,10 @@ holds_swept z a v good p h held head = (good.numbers p h head).owned (λ none. l
 taken_kept : (a : ℕ) (v w : View) → HoldsSwept a v → KeepsTaken v.generation v.page v.alloc w.alloc → (c : SpanClass) (k : CachedSpan) → IsCached a v c k → (j : ℕ) → j < k.cursor → row_bit w.alloc (slot_at (span_at c.class k) j) ≡ 1
 taken_kept a v w swept keeps c k x j lt = subst (λ (n : ℕ). row_bit w.alloc n ≡ 1) (slot x.span.h.class x.span.class)
     (keeps k.head j x.span.h x.span.head (swept k.head x.span.h x.span.held x.span.head) (count x.span.h.class x.span.class (let few = x.few in omega (arith, lt, few))) (subst (λ (n : ℕ). row_bit v.alloc n ≡ 1) (sym (slot x.span.h.class x.span.class)) (x.taken j lt))) where
-      slot : (f : SizeClass) → f ≡ size.Small c.class → 1024 * k.head + j * cond (is_own_class f) (1024 * x.span.h.pages) (slot_of (number_of_class f) / 8) ≡ slot_at (span_at c.class k) j
+      slot : (f : SizeClass) → f ≡ SizeClass.Small c.class → 1024 * k.head + j * cond (is_own_class f) (1024 * x.span.h.pages) (slot_of (number_of_class f) / 8) ≡ slot_at (span_at c.class k) j
       slot f e = rw (e) refl
 
-      count : (f : SizeClass) → f ≡ size.Small c.class → j < slots_of c.class → j < cond (is_own_class f) 1 (slots_of (number_of_class f))
+      count : (f : SizeClass) → f ≡ SizeClass.Small c.class → j < slots_of c.class → j < cond (is_own_class f) 1 (slots_of (number_of_class f))
       count f e few = rw (e) few
 
 module _ (z : Arena) (a : ℕ) (v w : View) (o : Others z a v w) where

@@ -1,23 +1,12 @@
 -- Each step of a leave is a move that its seat may make, and what is known at each stage holds then and lasts.
 use Rattle.std.proofs.Common.{◌≡◌, ℕ, ◌+◌, ◌<◌, false, refl, sym, subst, arith}
+use Rattle.gh_mutator_heap.proofs.Vocabulary.{Arena, Cell, cell_of, effect, GONE, Good, Has, InRange, is_busy, IsBetweenOperations, IsParked, KeepsObjects, KnowsAtAnyTime, landing, leave_held_at, leave_locked_at, leaves_at, LeavesByRights, LeaveStageFacts, Leaving, leaving, no_page, Others, Polling, Shared, stage_of, Steps, TakesLeave, View, view, with_nothing}
 use Rattle.gh_base.specs.declared.cell.Ask.TheVariants.{Load, Store}
-use Rattle.gh_base.specs.declared.cell.Cell.TheVariants as cell
-use Rattle.gh_base.specs.declared.pack.TheConstants.{GONE}
-use Rattle.gh_base.specs.Cells.{InRange}
-use Rattle.gh_base.specs.Steps.{effect}
-use Rattle.gh_heap.specs.Moves.{KeepsObjects, Others, landing}
-use Rattle.gh_phase.specs.Shakes.{IsParked}
 use Rattle.gh_poll.specs.declared.leave.LeaveStage.{LeaveStage}
-use Rattle.gh_poll.specs.declared.leave.LeaveStage.TheVariants as leave_stage
 use Rattle.gh_poll.specs.Give as give
-use Rattle.gh_poll.specs.Handshake.{leaves_at}
-use Rattle.gh_poll.specs.Leave.{asks_at, goes_at, is_busy, stage_of}
-use Rattle.gh_poll.specs.Local.{leaving, with_nothing}
-use Rattle.gh_mutator_heap.specs.PollHeap.{Has, LeaveStageFacts, KnowsAtAnyTime, leave_held_at, leave_locked_at, no_page}
-use Rattle.gh_mutator_heap.specs.PollHeapLaws.{IsBetweenOperations, LeavesByRights, TakesLeave}
+use Rattle.gh_poll.specs.Leave.{asks_at, goes_at}
 use Rattle.gh_mutator_heap.proofs.Holding.Gives.{Gives, gives_begin, gives_last, gives_on, gives_within}
 use Rattle.gh_mutator_heap.proofs.Holding.Known.{HoldsSwept, Kept, Known, by_quiet, holds_swept, stands_kept, stands_last, stands_stopped, stands_to}
-use Rattle.gh_mutator_heap.proofs.Holding.Vocabulary.{Arena, Good, Leaving, Polling, Shared, Steps, View, cell_of, view}
 
 -- what is known at a stage, with its rights
 record LeavesAt (z : Arena) (a : ℕ) (v : View) (q : LeaveStage) : Type 0 where
@@ -42,25 +31,25 @@ module _ (k : Known) (z : Arena) (a : ℕ) (s : Shared) (good : Good z (view s))
   then t kept q x = (x.has, record { stands = stands_kept z a (view s) (view t) p kept stands; seat_is = seat_is; stage_is = x.facts })
 
   leaves_on_at : (q : LeaveStage) → Has a (view s) (leave_locked_at q) (leave_held_at q) → LeaveStageFacts z a (view s) q → Leads q
-  leaves_on_at (leave_stage.Giving g) has x =
+  leaves_on_at (LeaveStage.Giving g) has x =
       let n : ℕ = s.words (cell_of (give.asks g)) in
       landing z a s (effect s.words (give.asks g)) (λ t. Kept a (view s) (view t) × Gives z a (view t) (give.goes g n)) (λ t. KeepsObjects (view s) (view t) × TakesLeave z a (view t) p (record w { stage = stage_of (give.goes g n) }))
       (λ t h. (h.0.objects, then t h.0.objects (stage_of (give.goes g n)) (given_then z a (view t) (give.goes g n) h.1)))
       (gives_on k z a s good g (record { has = has; facts = x }))
-  leaves_on_at leave_stage.Leave has x = by_quiet k z a s good (Store (cell.Ack w.seat) GONE) false no_page (λ t. KeepsObjects (view s) (view t) × TakesLeave z a (view t) p (record w { stage = leave_stage.Left })) tt has
-      (λ t kept r. (kept.objects, then t kept.objects leave_stage.Left (record { has = r; facts = tt })))
-  leaves_on_at leave_stage.Left has x = by_quiet k z a s good (Load cell.Touch) false no_page (λ t. KeepsObjects (view s) (view t) × TakesLeave z a (view t) p (record w { stage = leave_stage.Left })) tt has
-      (λ t kept r. (kept.objects, then t kept.objects leave_stage.Left (record { has = r; facts = tt })))
+  leaves_on_at LeaveStage.Leave has x = by_quiet k z a s good (Store (Cell.Ack w.seat) GONE) false no_page (λ t. KeepsObjects (view s) (view t) × TakesLeave z a (view t) p (record w { stage = LeaveStage.Left })) tt has
+      (λ t kept r. (kept.objects, then t kept.objects LeaveStage.Left (record { has = r; facts = tt })))
+  leaves_on_at LeaveStage.Left has x = by_quiet k z a s good (Load Cell.Touch) false no_page (λ t. KeepsObjects (view s) (view t) × TakesLeave z a (view t) p (record w { stage = LeaveStage.Left })) tt has
+      (λ t kept r. (kept.objects, then t kept.objects LeaveStage.Left (record { has = r; facts = tt })))
 
 stage_lasts : (z : Arena) (a : ℕ) (v w : View) (q : LeaveStage) → HoldsSwept a v → Others z a v w → LeaveStageFacts z a v q → LeaveStageFacts z a w q
-stage_lasts z a v w (leave_stage.Giving g) swept o x = gives_last z a v w o swept g x
-stage_lasts z a v w leave_stage.Leave swept o x = tt
-stage_lasts z a v w leave_stage.Left swept o x = tt
+stage_lasts z a v w (LeaveStage.Giving g) swept o x = gives_last z a v w o swept g x
+stage_lasts z a v w LeaveStage.Leave swept o x = tt
+stage_lasts z a v w LeaveStage.Left swept o x = tt
 
 within_at : (z : Arena) (a : ℕ) (v : View) (x : Leaving) (q : LeaveStage) → Good z v → a < z.layout.procs → x.seat ≡ a → LeaveStageFacts z a v q → InRange z.layout (cell_of (asks_at x q))
-within_at z a v x (leave_stage.Giving g) good few e f = gives_within z a v g good f
-within_at z a v x leave_stage.Leave good few e f = subst (λ (b : ℕ). b < z.layout.procs + z.layout.workers) (sym e) (omega (arith, few))
-within_at z a v x leave_stage.Left good few e f = tt
+within_at z a v x (LeaveStage.Giving g) good few e f = gives_within z a v g good f
+within_at z a v x LeaveStage.Leave good few e f = subst (λ (b : ℕ). b < z.layout.procs + z.layout.workers) (sym e) (omega (arith, few))
+within_at z a v x LeaveStage.Left good few e f = tt
 
 -- Where it is parked it is gone.
 

@@ -1,15 +1,8 @@
 -- What a cache lists, and that it lists no span twice: a head tells its span class.
-use Rattle.std.proofs.Common.{◌≡◌, ℕ, zero, suc, ◌+◌, ◌<◌, ◌≤◌, Bool, true, false, eqb, List, [], ◌∷◌, drop, length, get_or, Option, Some, None, refl, sym, ap, ◌∙◌, subst, arith}
-use Rattle.std.specs.Prelude.{◌||◌}
+use Rattle.std.proofs.Common.{◌≡◌, ℕ, zero, suc, ◌+◌, ◌<◌, ◌≤◌, Bool, true, false, eqb, List, [], ◌∷◌, drop, length, get_or, Option, Some, None, refl, sym, ap, ◌∙◌, subst, arith, ◌||◌}
 use Rattle.std.proofs.lemmas.Bool.{eqb-true, eq-eqb}
 use Rattle.std.proofs.lemmas.List.{get_or-drop, length-drop}
-use Rattle.gh_base.specs.declared.pack.PageWord.TheVariants as page
-use Rattle.gh_base.specs.Reading.{read_replicate}
-use Rattle.gh_class.specs.declared.class.SizeClass.TheVariants as size
-use Rattle.gh_poll.specs.Give.{none_cached, span_class}
-use Rattle.gh_mutator.specs.Vocabulary.{CachedSpan, span_index, SpanClass}
-use Rattle.gh_mutator_heap.specs.Vocabulary.{page_of, SPAN_CLASSES, SpanHead, View}
-use Rattle.gh_mutator_heap.proofs.Holding.Vocabulary.{CachesAll, CachesFrom, IsCached, lists}
+use Rattle.gh_mutator_heap.proofs.Vocabulary.{CachedSpan, CachesAll, CachesFrom, IsCached, lists, none_cached, page_of, PageWord, read_replicate, SizeClass, span_class, SPAN_CLASSES, span_index, SpanClass, SpanHead, View}
 
 abbrev no_span : Option CachedSpan
 no_span = None
@@ -68,9 +61,9 @@ class_of class noscan = record { class = class; noscan = noscan }
 
 pub head_tells : (a : ℕ) (v : View) (c d : SpanClass) (k l : CachedSpan) → IsCached a v c k → IsCached a v d l → k.head ≡ l.head → c ≡ d
 head_tells a v c d k l x y e =
-    let at : page_of (v.page k.head) ≡ page.Head y.span.h = subst (λ (p : ℕ). page_of (v.page p) ≡ page.Head y.span.h) (sym e) y.span.head in
+    let at : page_of (v.page k.head) ≡ PageWord.Head y.span.h = subst (λ (p : ℕ). page_of (v.page p) ≡ PageWord.Head y.span.h) (sym e) y.span.head in
     let same : x.span.h ≡ y.span.h = cc (x.span.head, at) in
-    let class : size.Small c.class ≡ size.Small d.class = sym x.span.class ∙ ap (λ (h : SpanHead). h.class) same ∙ y.span.class in
+    let class : SizeClass.Small c.class ≡ SizeClass.Small d.class = sym x.span.class ∙ ap (λ (h : SpanHead). h.class) same ∙ y.span.class in
     let number : c.class ≡ d.class = cc in
     ap (λ (n : ℕ). class_of n c.noscan) number ∙ ap (λ (b : Bool). class_of d.class b) (sym x.span.noscan_is ∙ ap (λ (h : SpanHead). h.noscan) same ∙ y.span.noscan_is)
 

@@ -1,18 +1,13 @@
 -- Each step of a poll is a move that its seat may make, and what is known at each stage holds then and lasts.
-use Rattle.std.proofs.Common.{◌≡◌, ℕ, ◌%◌, ◌^◌, ◌<◌, Bool, false, [], Option, Some, None, refl, sym, subst, ◌∙◌, arith}
-use Rattle.std.specs.Prelude.{slice_index_or}
+use Rattle.std.proofs.Common.{◌≡◌, ℕ, ◌%◌, ◌^◌, ◌<◌, Bool, false, [], Option, Some, None, refl, sym, subst, ◌∙◌, arith, slice_index_or}
 use Rattle.std.proofs.lemmas.List.{length-set}
+use Rattle.gh_mutator_heap.proofs.Vocabulary.{Arena, CachesAll, Cell, cell_of, effect, Good, Has, HasLoaded, Held, InRange, IsBetweenOperations, IsHeld, IsParked, KeepsGhosts, KeepsObjects, KnowsAtAnyTime, KnowsSpans, landing, lists, no_page, none_cached, Others, phase_of, poll_held_at, poll_locked_at, poll_stage_of, PollFacts, Polling, Polls, PollsByRights, PollStage, Resumed, ResumeFacts, RunPhase, ScansWithin, seats_of, Shared, SoundRoomFinding, Steps, View, view}
 use Rattle.gh_base.specs.declared.cell.Ask.TheVariants.{Load, Store}
-use Rattle.gh_base.specs.declared.cell.Cell.TheVariants as cell
-use Rattle.gh_phase.specs.declared.resume.ResumeStage.TheVariants as resume_stage
-use Rattle.gh_phase.specs.declared.view.RunPhase.TheVariants as run
 use Rattle.gh_phase.specs.Listing as resume
 use Rattle.gh_phase.specs.Waiting.{phase_on}
 use Rattle.gh_wbuf.specs.RoomFinding as room
 use Rattle.gh_poll.specs.declared.poll.PollStage.TheVariants.{LoadPhase, Giving, Resuming, Marking, FindRoom, Ended}
-use Rattle.gh_poll.specs.Give.{none_cached}
 use Rattle.gh_poll.specs.Give as give
-use Rattle.gh_poll.specs.Handshake.{poll_stage_of}
 use Rattle.gh_poll.specs.MarkStack as mark
 use Rattle.gh_poll.specs.Poll.{after_mark, after_resume, after_room, asks, asks_at, at_stage, begins, by_phase, counted, due, giving, goes, goes_at, is_busy, marks_then, resumed, scanned, scans, stops_then}
 use Rattle.gh_poll.specs.Due.{due_scans}
@@ -21,7 +16,7 @@ use Rattle.gh_mutator_heap.proofs.Holding.Known.{HoldsSwept, Kept, Known, by_qui
 use Rattle.gh_mutator_heap.proofs.Holding.Lists.{none_cached_all}
 use Rattle.gh_mutator_heap.proofs.Holding.Ranges.{room_gives, room_goes, room_quiet, room_within}
 use Rattle.gh_mutator_heap.proofs.Holding.Scans.{scan_begins, scan_goes, scan_quiet, scan_within}
-use Rattle.gh_mutator_heap.proofs.Holding.Vocabulary.{Arena, CachesAll, Good, Has, HasLoaded, Held, InRange, IsBetweenOperations, IsHeld, IsParked, KeepsGhosts, KeepsObjects, KnowsSpans, Others, PhaseView, PollFacts, PollStage, PollStageFacts, Polling, Polls, PollsByRights, ResumeFacts, ResumeStage, Resumed, RunPhase, ScansWithin, SoundRoomFinding, Shared, KnowsAtAnyTime, Steps, View, cell_of, effect, landing, lists, no_page, phase_of, poll_held_at, poll_locked_at, run_phase, seats_of, view}
+use Rattle.gh_mutator_heap.proofs.Holding.Vocabulary.{PhaseView, PollStageFacts, ResumeStage, run_phase}
 
 module _ (z : Arena) (a : ℕ) (v : View) where
   -- another stage
@@ -47,7 +42,7 @@ module _ (z : Arena) (a : ℕ) (v : View) where
   counted_polls : (p : Polling) → IsBetweenOperations z a v p → Polls z a v (counted p)
   counted_polls p r = grind arith
 
-  scan_polls : (p : Polling) → IsBetweenOperations z a v p → p.local.view.phase ≡ run.Mark → (out : Option ℕ) → due z.layout p ≡ out → Polls z a v (scans z.layout p out)
+  scan_polls : (p : Polling) → IsBetweenOperations z a v p → p.local.view.phase ≡ RunPhase.Mark → (out : Option ℕ) → due z.layout p ≡ out → Polls z a v (scans z.layout p out)
   scan_polls p r on None e = counted_polls p r
   scan_polls p r on (Some g) e =
       let m : mark.StackMarking = mark.opening z.layout p.seat g p.local.view.begun (slice_index_or p.local.stacks g []) p.local.held in
@@ -56,9 +51,9 @@ module _ (z : Arena) (a : ℕ) (v : View) where
       (r.0, record { stands = stands_at p (Marking g m) r.1.stands; stage_is = (knows_at p (Marking g m) r.1.knows, within) })
 
   marks_polls : (p : Polling) → IsBetweenOperations z a v p → (phase : RunPhase) → p.local.view.phase ≡ phase → Polls z a v (marks_then z.layout p phase)
-  marks_polls p r run.Off e = ends_now p r
-  marks_polls p r run.Mark e = scan_polls p r e (due z.layout p) refl
-  marks_polls p r run.Finished e = ends_now p r
+  marks_polls p r RunPhase.Off e = ends_now p r
+  marks_polls p r RunPhase.Mark e = scan_polls p r e (due z.layout p) refl
+  marks_polls p r RunPhase.Finished e = ends_now p r
 
   stops_polls : (p : Polling) (g : give.Giving) (stops : ℕ) → KnowsAtAnyTime z a v p → Gives z a v g → Polls z a v (stops_then p g stops)
   stops_polls p g stops s x = grind arith
@@ -81,7 +76,7 @@ module _ (z : Arena) (a : ℕ) (v : View) where
     },
   ) out.view.phase refl
 
-  phase_resumed : (p : Polling) (r : resume.Resuming) (number : ℕ) (phase : Option RunPhase) → ResumeFacts a v p (resume.at_stage r resume_stage.LoadPhase) → ResumeFacts a v p (resume.after_phase r number phase)
+  phase_resumed : (p : Polling) (r : resume.Resuming) (number : ℕ) (phase : Option RunPhase) → ResumeFacts a v p (resume.at_stage r ResumeStage.LoadPhase) → ResumeFacts a v p (resume.after_phase r number phase)
   phase_resumed p r number phase f = grind arith
 
   -- the scan of a stack, and the search for room
@@ -122,8 +117,8 @@ module _ (k : Known) (z : Arena) (a : ℕ) (s : Shared) (good : Good z (view s))
 
   loads_phase : Has a (view s) false (lists p.local.cache) → KnowsSpans a (view s) p → Leads LoadPhase
   loads_phase has x =
-      let found = phase_of (s.words cell.Phase) in
-      by_quiet k z a s good (Load cell.Phase) false (lists p.local.cache) (λ t. KeepsObjects (view s) (view t) × Polls z a (view t) (goes_at z.layout p LoadPhase (s.words cell.Phase))) tt has
+      let found = phase_of (s.words Cell.Phase) in
+      by_quiet k z a s good (Load Cell.Phase) false (lists p.local.cache) (λ t. KeepsObjects (view s) (view t) × Polls z a (view t) (goes_at z.layout p LoadPhase (s.words Cell.Phase))) tt has
       (λ t kept r. (kept.objects, phase_polls z a (view t) p found.stops (rests_then t kept r x) (run_phase found.phase)))
 
   gives_next : (g : give.Giving) (stops : ℕ) → Gives z a (view s) g → Leads (Giving g stops)
@@ -141,29 +136,29 @@ module _ (k : Known) (z : Arena) (a : ℕ) (s : Shared) (good : Good z (view s))
     goes_on : (t : Shared) (to : resume.Resuming) → to.seat ≡ r.seat → HasLoaded (view t) to.view to.stage → Kept a (view s) (view t) → Has a (view t) false (lists p.local.cache) → Polls z a (view t) (at_stage p (Resuming to))
     goes_on t to same loaded kept has = resumes_on z a (view t) p to has (stands_then t kept) (record { seat_is = same ∙ f.seat_is; no_span = f.no_span; no_buffer = f.no_buffer; loaded = loaded })
 
-    whole : s.words cell.Gen % 2 ^ 34 ≡ s.words cell.Gen
-    whole = let few : s.words cell.Gen < 2 ^ 34 = good.generation in omega (arith, few)
+    whole : s.words Cell.Gen % 2 ^ 34 ≡ s.words Cell.Gen
+    whole = let few : s.words Cell.Gen < 2 ^ 34 = good.generation in omega (arith, few)
 
     resumes_at : (q : ResumeStage) → HasLoaded (view s) r.view q → Resumes q
-    resumes_at resume_stage.Acknowledge x = by_quiet k z a s good (Store (cell.Ack r.seat) r.stops) false (lists p.local.cache) (λ t. KeepsObjects (view s) (view t) × Polls z a (view t) (at_stage p (Resuming (resume.at_stage r resume_stage.LoadPhase)))) tt has
-        (λ t kept h. (kept.objects, goes_on t (resume.at_stage r resume_stage.LoadPhase) refl tt kept h))
-    resumes_at resume_stage.LoadPhase x =
-        let found = phase_of (s.words cell.Phase) in
+    resumes_at ResumeStage.Acknowledge x = by_quiet k z a s good (Store (Cell.Ack r.seat) r.stops) false (lists p.local.cache) (λ t. KeepsObjects (view s) (view t) × Polls z a (view t) (at_stage p (Resuming (resume.at_stage r ResumeStage.LoadPhase)))) tt has
+        (λ t kept h. (kept.objects, goes_on t (resume.at_stage r ResumeStage.LoadPhase) refl tt kept h))
+    resumes_at ResumeStage.LoadPhase x =
+        let found = phase_of (s.words Cell.Phase) in
         let to : resume.Resuming = resume.after_phase r found.stops (run_phase found.phase) in
-        subst (λ (out : Option Resumed). Steps z a s (Load cell.Phase) (λ t. KeepsObjects (view s) (view t) × Polls z a (view t) (after_resume z.layout p to out))) (sym (phase_on r found.stops (run_phase found.phase)))
-        (by_quiet k z a s good (Load cell.Phase) false (lists p.local.cache) (λ t. KeepsObjects (view s) (view t) × Polls z a (view t) (at_stage p (Resuming to))) tt has
+        subst (λ (out : Option Resumed). Steps z a s (Load Cell.Phase) (λ t. KeepsObjects (view s) (view t) × Polls z a (view t) (after_resume z.layout p to out))) (sym (phase_on r found.stops (run_phase found.phase)))
+        (by_quiet k z a s good (Load Cell.Phase) false (lists p.local.cache) (λ t. KeepsObjects (view s) (view t) × Polls z a (view t) (at_stage p (Resuming to))) tt has
         (λ t kept h. (kept.objects, resumes_on z a (view t) p to h (stands_then t kept) (phase_resumed z a (view t) p r found.stops (run_phase found.phase) (record { seat_is = f.seat_is; no_span = f.no_span; no_buffer = f.no_buffer; loaded = tt })))))
-    resumes_at resume_stage.LoadGeneration x =
-        let to : resume.Resuming = resume.goes_at r resume_stage.LoadGeneration (s.words cell.Gen) in
-        by_quiet k z a s good (Load cell.Gen) false (lists p.local.cache) (λ t. KeepsObjects (view s) (view t) × Polls z a (view t) (at_stage p (Resuming to))) tt has
+    resumes_at ResumeStage.LoadGeneration x =
+        let to : resume.Resuming = resume.goes_at r ResumeStage.LoadGeneration (s.words Cell.Gen) in
+        by_quiet k z a s good (Load Cell.Gen) false (lists p.local.cache) (λ t. KeepsObjects (view s) (view t) × Polls z a (view t) (at_stage p (Resuming to))) tt has
         (λ t kept h. (kept.objects, goes_on t to refl (whole ∙ sym kept.own.generation) kept h))
-    resumes_at resume_stage.LoadBegun x =
-        let out : Resumed = resume.resumed_with r.view (s.words cell.Begun) in
-        by_quiet k z a s good (Load cell.Begun) false (lists p.local.cache) (λ t. KeepsObjects (view s) (view t) × Polls z a (view t) (marks_then z.layout (resumed p out) out.view.phase)) tt has
+    resumes_at ResumeStage.LoadBegun x =
+        let out : Resumed = resume.resumed_with r.view (s.words Cell.Begun) in
+        by_quiet k z a s good (Load Cell.Begun) false (lists p.local.cache) (λ t. KeepsObjects (view s) (view t) × Polls z a (view t) (marks_then z.layout (resumed p out) out.view.phase)) tt has
         (λ t kept h. (kept.objects, resumed_polls z a (view t) p out h (stands_then t kept) f.no_span (x ∙ sym kept.own.generation)))
-    resumes_at (resume_stage.Ended another) x =
+    resumes_at (ResumeStage.Ended another) x =
         let out : Resumed = record { view = r.view; another_cycle = another } in
-        by_quiet k z a s good (Load cell.Touch) false (lists p.local.cache) (λ t. KeepsObjects (view s) (view t) × Polls z a (view t) (marks_then z.layout (resumed p out) out.view.phase)) tt has
+        by_quiet k z a s good (Load Cell.Touch) false (lists p.local.cache) (λ t. KeepsObjects (view s) (view t) × Polls z a (view t) (marks_then z.layout (resumed p out) out.view.phase)) tt has
         (λ t kept h. (kept.objects, resumed_polls z a (view t) p out h (stands_then t kept) f.no_span (x ∙ sym kept.own.generation)))
 
   marks_next : (g : ℕ) (m : mark.StackMarking) → Has a (view s) false (lists p.local.cache) → KnowsSpans a (view s) p → ScansWithin z.layout m → Leads (Marking g m)
@@ -184,7 +179,7 @@ module _ (k : Known) (z : Arena) (a : ℕ) (s : Shared) (good : Good z (view s))
   polls_at_stage (Resuming r) has x = resumes_at r has x r.stage x.loaded
   polls_at_stage (Marking g m) has x = marks_next g m has x.0 x.1
   polls_at_stage (FindRoom r) has x = finds_next r has x.0 x.1
-  polls_at_stage Ended has x = by_quiet k z a s good (Load cell.Touch) false (lists p.local.cache) (λ t. KeepsObjects (view s) (view t) × Polls z a (view t) (at_stage p Ended)) tt has
+  polls_at_stage Ended has x = by_quiet k z a s good (Load Cell.Touch) false (lists p.local.cache) (λ t. KeepsObjects (view s) (view t) × Polls z a (view t) (at_stage p Ended)) tt has
       (λ t kept r. (kept.objects, ends_now z a (view t) p (rests_then t kept r x)))
 
 pub polls_on : (k : Known) (z : Arena) (a : ℕ) (s : Shared) (p : Polling) → Good z (view s) → Polls z a (view s) p → Steps z a s (asks p) (λ t. KeepsObjects (view s) (view t) × Polls z a (view t) (goes z.layout p (s.words (cell_of (asks p)))))

@@ -1,17 +1,9 @@
 -- The search for a buffer with room changes no word that a right guards, and asks for words that there are.
 use Rattle.std.proofs.Common.{◌≡◌, ℕ, ◌<◌, Option, Some, refl, arith}
-use Rattle.gh_base.specs.declared.held.Held.{Held}
-use Rattle.gh_base.specs.declared.layout.Layout.{Layout}
-use Rattle.gh_base.specs.declared.pack.TheConstants.{ENTRIES}
-use Rattle.gh_base.specs.Cells.{InRange, buffers_of, seats_of}
-use Rattle.gh_base.specs.Holding.{FitsBuffers}
-use Rattle.gh_base.specs.Steps.{cell_of}
-use Rattle.gh_heap.specs.Moves.{IsQuiet}
+use Rattle.gh_mutator_heap.proofs.Vocabulary.{buffers_of, cell_of, ENTRIES, FitsBuffers, Held, InRange, IsQuiet, IsTryOf, Layout, seats_of, SoundRoomFinding, SoundRoomStage}
 use Rattle.gh_wbuf.specs.declared.find_room.RoomStage.{RoomStage}
-use Rattle.gh_wbuf.specs.declared.find_room.RoomStage.TheVariants as room_stage
 use Rattle.gh_wbuf.specs.declared.try_buffer.Wish.TheVariants.{Room}
 use Rattle.gh_wbuf.specs.RoomFinding as room
-use Rattle.gh_wbuf.specs.Sound.{IsTryOf, SoundRoomFinding, SoundRoomStage}
 use Rattle.gh_wbuf.specs.Trying as try
 
 -- It changes no word that a right guards.
@@ -33,7 +25,7 @@ module _ (l : Layout) where
   fresh seat index few below = record { seat = few; stage = record { sound = record { seat = few; index = below; held = tt; stage = tt }; seat_is = refl; wish_is = refl; busy = refl } }
 
   module _ (r : room.RoomFinding) (seat : r.seat < seats_of l) where
-    tried_then : (t : try.Trying) → IsTryOf l r.seat Room t → (found : ℕ) (out : Option (Option Held)) → try.gives t found ≡ out → SoundRoomFinding l (room.after_try l (room.at_stage r (room_stage.Try (try.goes t found))) t.index out)
+    tried_then : (t : try.Trying) → IsTryOf l r.seat Room t → (found : ℕ) (out : Option (Option Held)) → try.gives t found ≡ out → SoundRoomFinding l (room.after_try l (room.at_stage r (RoomStage.Try (try.goes t found))) t.index out)
     tried_then t of found out e = grind arith
 
     room_goes_at : (q : RoomStage) (found : ℕ) → SoundRoomFinding l r → SoundRoomStage l r.seat q → SoundRoomFinding l (room.goes_at l r q found)

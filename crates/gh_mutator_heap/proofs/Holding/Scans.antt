@@ -1,21 +1,12 @@
 -- The scan of a stack with the shading changes no word that a right guards, and asks for words that there are.
 use Rattle.std.proofs.Common.{◌≡◌, ℕ, ◌<◌, List, Option, Some, None, refl, arith}
-use Rattle.gh_base.specs.declared.held.Held.{Held}
-use Rattle.gh_base.specs.declared.layout.Layout.{Layout}
-use Rattle.gh_base.specs.declared.value.Value.{Value}
-use Rattle.gh_base.specs.Cells.{InRange, seats_of}
-use Rattle.gh_base.specs.Holding.{IsHeld}
-use Rattle.gh_base.specs.Steps.{cell_of}
-use Rattle.gh_heap.specs.Moves.{IsQuiet}
-use Rattle.gh_shade.specs.declared.shade.Shaded.{Shaded}
+use Rattle.gh_mutator_heap.proofs.Vocabulary.{cell_of, Held, InRange, IsHeld, IsQuiet, Layout, MarkStackStageWithin, ScansWithin, seats_of, Shaded, SoundRoomFinding, Value}
 use Rattle.gh_shade.specs.Listing as shade
 use Rattle.gh_shade.specs.Sound.{SoundShading}
 use Rattle.gh_wbuf.specs.RoomFinding as room
-use Rattle.gh_wbuf.specs.Sound.{SoundRoomFinding}
 use Rattle.gh_poll.specs.declared.mark_stack.MarkStackStage.{MarkStackStage}
 use Rattle.gh_poll.specs.declared.mark_stack.MarkStackStage.TheVariants.{Shading, FindRoom, Store, Ended}
 use Rattle.gh_poll.specs.MarkStack as mark
-use Rattle.gh_mutator_heap.specs.PollWithin.{ScansWithin, MarkStackStageWithin}
 use Rattle.gh_mutator_heap.proofs.Holding.Ranges.{Given, room_gives, room_goes}
 
 -- It changes no word that a right guards.

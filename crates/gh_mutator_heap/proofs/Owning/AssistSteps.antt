@@ -1,19 +1,11 @@
 -- The steps of an assist behind the making of an object: each is on a word that no right guards, and where it has ended the object is answered.
 use Rattle.std.proofs.Common.{◌≡◌, ℕ, [], ◌++◌, Option, Some, None, refl, sym, ap, subst, ◌∙◌, arith}
-use Rattle.std.specs.Option.{option_to_list}
+use Rattle.gh_mutator_heap.proofs.Vocabulary.{Act, after_assist, Answer, answer_assist, Arena, Assisting, assists, AssistWithin, at_poll, at_task, cell_of, Does, Good, moved, Name, option_to_list, Polling, Processor, ProcessorFacts, Quiet, Rests, Shared, view, Wanted, with_payment}
 use Rattle.gh_assist.specs.Listing as assist
-use Rattle.gh_assist.specs.Within.{AssistWithin}
-use Rattle.gh_heap.specs.Moves.{Quiet}
-use Rattle.gh_poll.specs.Local.{with_payment}
-use Rattle.gh_mutator.specs.New.{after_assist, answer_assist, assists}
-use Rattle.gh_mutator.specs.Processor.{at_poll}
-use Rattle.gh_mutator.specs.Vocabulary.{Answer, Assisting, cell_of, Name, Polling}
-use Rattle.gh_mutator_heap.specs.Vocabulary.{Arena, Good, moved, Shared, view, Processor, Wanted}
 use Rattle.gh_mutator_heap.proofs.Holding.Known.{holds_swept, knows_to, stands_to}
 use Rattle.gh_mutator_heap.proofs.Owning.Known.{Known}
 use Rattle.gh_mutator_heap.proofs.Owning.Statements.{idle, StepAt}
 use Rattle.gh_mutator_heap.proofs.Owning.Steady.{Steady, steady_on}
-use Rattle.gh_mutator_heap.proofs.Owning.Vocabulary.{Act, at_task, Does, ProcessorFacts, Rests}
 
 module _ (k : Known) (w : Wanted) (n : Name) (x : Assisting) (z : Arena) (a : ℕ) (s : Shared) (m : Processor) (pending : Option Answer) (good : Good z (view s)) (fine : ProcessorFacts z a (view s) (at_task m (assists w n x)) pending) where
   abbrev me : Processor

@@ -1,32 +1,13 @@
 -- A write behind the barrier while others change the heap: until its last step it changes no word that a right guards, and it goes on as the write that it is; its last step stores what the register holds.
-use Rattle.std.proofs.Common.{◌≡◌, ℕ, ◌*◌, ◌≤◌, ◌⊎◌, Bool, true, false, cond, eqb, Option, Some, None, inl, refl, sym, ap, subst, ◌∙◌, arith}
-use Rattle.std.specs.Prelude.{is_none}
-use Rattle.gh_base.specs.declared.cell.Ask.{Ask}
-use Rattle.gh_base.specs.declared.cell.Ask.TheVariants as ask
-use Rattle.gh_base.specs.declared.held.Held.{Held}
-use Rattle.gh_base.specs.declared.value.Value.TheVariants as value
-use Rattle.gh_base.specs.Cells.{InRange}
-use Rattle.gh_base.specs.Holding.{IsHeld}
-use Rattle.gh_model.specs.declared.EverValue.TheVariants as ever
-use Rattle.gh_heap.specs.Moves.{IsQuiet}
-use Rattle.gh_shade.specs.declared.shade.Shaded.{Shaded}
+use Rattle.std.proofs.Common.{◌≡◌, ℕ, ◌*◌, ◌≤◌, ◌⊎◌, Bool, true, false, cond, eqb, Option, Some, None, inl, refl, sym, ap, subst, ◌∙◌, arith, is_none}
+use Rattle.gh_mutator_heap.proofs.Vocabulary.{Arena, Ask, EverValue, FitsPointer, Good, Held, held_then, InRange, is_number_value, IsHeld, IsQuiet, IsReached, keeping, Layout, Means, moved, pointer_of, PointerCell, Processor, Quiet, Shaded, Shared, Value, View, view, word_of_value, WritesIt, WriteStage, Writing, written}
 use Rattle.gh_shade.specs.declared.shade.ShadeStage.{ShadeStage}
 use Rattle.gh_shade.specs.Listing as shade
-use Rattle.gh_barrier.specs.declared.pointer_cell.PointerCell.{PointerCell}
-use Rattle.gh_barrier.specs.declared.write_pointer.WriteStage.{WriteStage}
-use Rattle.gh_barrier.specs.Listing.{Writing}
 use Rattle.gh_barrier.specs.Listing as write
-use Rattle.gh_barrier.specs.Sound.{FitsPointer}
 use Rattle.gh_poll.specs.declared.poll.Local.{Local}
-use Rattle.gh_poll.specs.Barrier.{held_then, pointer_of, WritesIt, written}
-use Rattle.gh_poll.specs.Registers.{is_number_value}
-use Rattle.gh_mutator.specs.Processor.{keeping}
-use Rattle.gh_mutator.specs.Vocabulary.{Layout, Value}
-use Rattle.gh_mutator_heap.specs.Vocabulary.{Arena, EverValue, Good, IsReached, Means, moved, Quiet, Shared, View, view, Processor}
 use Rattle.gh_mutator_heap.proofs.Owning.Known.{Known}
 use Rattle.gh_mutator_heap.proofs.Owning.Objects.{placed_below}
 use Rattle.gh_mutator_heap.proofs.Owning.Steady.{Steady}
-use Rattle.gh_mutator_heap.proofs.Owning.Vocabulary.{word_of_value}
 
 -- Its steps.
 
@@ -45,7 +26,7 @@ pub record IsBefore (l : Layout) (w : Writing) (found : ℕ) : Type 0 where
 
 -- its last
 pub record IsLast (l : Layout) (w : Writing) (found : ℕ) : Type 0 where
-  pub stores : write.asks w ≡ ask.Store (write.cell_at w.at) (write.pointer_word w.pointer)
+  pub stores : write.asks w ≡ Ask.Store (write.cell_at w.at) (write.pointer_word w.pointer)
   pub ends : write.gives l w found ≡ Some tt
 
 old_goes_on : (w : Writing) (old : Option ℕ) → write.given (write.shades_old w old) ≡ None
@@ -78,11 +59,11 @@ word_written l at v w it = grind arith
 -- what a register holds names a word of the heap
 module _ (laws : Known) (z : Arena) (v : View) (good : Good z v) where
   pub names_fit : (x : EverValue) (y : Value) → IsReached v.ever x → Means v.place v.ever.made x y → FitsPointer z.layout (pointer_of y)
-  names_fit x value.Nil reached h = tt
-  names_fit x (value.Int n) reached h = tt
-  names_fit ever.Nil (value.Ref r) reached h = absurd h
-  names_fit (ever.Int i) (value.Ref r) reached h = absurd h
-  names_fit (ever.Ref n) (value.Ref r) reached h = let below = placed_below laws z v good n h.1 reached in let is = h.0 in by (eqb r 0) (omega arith) (omega arith) where
+  names_fit x Value.Nil reached h = tt
+  names_fit x (Value.Int n) reached h = tt
+  names_fit EverValue.Nil (Value.Ref r) reached h = absurd h
+  names_fit (EverValue.Int i) (Value.Ref r) reached h = absurd h
+  names_fit (EverValue.Ref n) (Value.Ref r) reached h = let below = placed_below laws z v good n h.1 reached in let is = h.0 in by (eqb r 0) (omega arith) (omega arith) where
     by : (b : Bool) → 1 ≤ r → r ≤ 1024 * z.layout.pages → FitsPointer z.layout (cond b None (Some r))
     by true some within = tt
     by false some within = record { some = some; within = within }

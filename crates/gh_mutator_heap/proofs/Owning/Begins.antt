@@ -1,22 +1,8 @@
 -- Where an operation begins, what is known of the processor is what its first stage says.
 use Rattle.std.proofs.Common.{◌≡◌, ℕ, ◌<◌, Bool, true, false, cond, None, refl, ap, subst, arith}
-use Rattle.gh_mutator_heap.proofs.Owning.Vocabulary.{begins, ProcessorFacts, GlobalFacts, LoadFacts, MayBegin, register_of, ShapesAreGood, StoreFacts}
-use Rattle.gh_base.specs.declared.operation.Op.TheVariants as op
-use Rattle.gh_base.specs.declared.value.Value.TheVariants as value
-use Rattle.gh_model.specs.declared.EverValue.TheVariants as ever
-use Rattle.gh_mutator.specs.Vocabulary.{Polling, Op, REGISTERS, Value}
-use Rattle.gh_mutator_heap.specs.Vocabulary.{Good, Arena, EverValue, is_number, Means, GoroutineRuns, View, Processor, Task}
-use Rattle.gh_barrier.specs.declared.pointer_cell.PointerCell.TheVariants as pointer_cell
-use Rattle.gh_mutator.specs.declared.global.GlobalStage.TheVariants as global_stage
-use Rattle.gh_mutator.specs.declared.task.Task.TheVariants as task
-use Rattle.gh_poll.specs.Barrier.{written}
-use Rattle.gh_poll.specs.Registers.{is_number_value}
+use Rattle.gh_mutator_heap.proofs.Vocabulary.{Arena, Begins, begins, EverValue, GlobalFacts, GlobalStage, Good, GoroutineRuns, is_busy_at, is_mark, is_number, is_number_value, LoadFacts, MayBegin, Means, Op, PointerCell, Polling, Processor, ProcessorFacts, register_of, REGISTERS, ShapesAreGood, StoreFacts, Task, Value, View, wanted_of, written}
 use Rattle.gh_mutator.specs.Global as global
-use Rattle.gh_mutator.specs.Listing.{is_busy_at}
 use Rattle.gh_mutator.specs.Load as load
-use Rattle.gh_poll.specs.Local.{is_mark}
-use Rattle.gh_mutator.specs.New.{wanted_of}
-use Rattle.gh_mutator_heap.specs.Runs.{Begins}
 use Rattle.gh_mutator.specs.Serving.{has_left_at}
 use Rattle.gh_mutator.specs.Store as store
 use Rattle.gh_mutator_heap.proofs.Owning.Barrier.{begins_so, names_fit}
@@ -41,47 +27,47 @@ module _ (z : Arena) (a : ℕ) (v : View) where
 
     -- it is written behind the barrier while marking is on
     stores_so : is_number (v.ever.register g u) ≡ false → is_number_value held ≡ false → (b : Bool) →
-        GlobalFacts z a v m.poll (record { g = g; r = u; k = k; stage = cond b (global_stage.Writing (written m.poll.local (pointer_cell.Global k) held)) global_stage.Store }) None (cond b (global_stage.Writing (written m.poll.local (pointer_cell.Global k) held)) global_stage.Store)
+        GlobalFacts z a v m.poll (record { g = g; r = u; k = k; stage = cond b (GlobalStage.Writing (written m.poll.local (PointerCell.Global k) held)) GlobalStage.Store }) None (cond b (GlobalStage.Writing (written m.poll.local (PointerCell.Global k) held)) GlobalStage.Store)
     stores_so number plain true =
         let fits = names_fit laws z v good (v.ever.register g u) held (register_reached v.ever g u runs.goes_on (v.ever.register g u) refl) (st.1.stands.registers g u runs.of low) in
-        let begun = begins_so laws z.layout m.poll.local (pointer_cell.Global k) held there fits st.1.stands.sits.held plain in
+        let begun = begins_so laws z.layout m.poll.local (PointerCell.Global k) held there fits st.1.stands.sits.held plain in
         (runs, low, there, number, begun, refl)
     stores_so number plain false = (runs, low, there, number, refl)
 
     begin_global : (x : EverValue) (y : Value) → held ≡ y → v.ever.register g u ≡ x → means x y → GlobalFacts z a v m.poll (global.begins_store m.poll.local g k u y) None (global.begins_store m.poll.local g k u y).stage
-    begin_global ever.Nil value.Nil e is h = subst (λ (y : Value). GlobalFacts z a v m.poll (record { g = g; r = u; k = k; stage = global.stores m.poll.local k y }) None (global.stores m.poll.local k y)) e (stores_so (ap is_number is) (ap is_number_value e) (is_mark m.poll.local.view.phase))
-    begin_global (ever.Int n) (value.Int w) e is h = (runs, ap is_number is, refl)
-    begin_global (ever.Ref n) (value.Ref w) e is h = subst (λ (y : Value). GlobalFacts z a v m.poll (record { g = g; r = u; k = k; stage = global.stores m.poll.local k y }) None (global.stores m.poll.local k y)) e (stores_so (ap is_number is) (ap is_number_value e) (is_mark m.poll.local.view.phase))
-    begin_global ever.Nil (value.Int w) e is h = absurd h
-    begin_global ever.Nil (value.Ref w) e is h = absurd h
-    begin_global (ever.Int n) value.Nil e is h = absurd h
-    begin_global (ever.Int n) (value.Ref w) e is h = absurd h
-    begin_global (ever.Ref n) value.Nil e is h = absurd h
-    begin_global (ever.Ref n) (value.Int w) e is h = absurd h
+    begin_global EverValue.Nil Value.Nil e is h = subst (λ (y : Value). GlobalFacts z a v m.poll (record { g = g; r = u; k = k; stage = global.stores m.poll.local k y }) None (global.stores m.poll.local k y)) e (stores_so (ap is_number is) (ap is_number_value e) (is_mark m.poll.local.view.phase))
+    begin_global (EverValue.Int n) (Value.Int w) e is h = (runs, ap is_number is, refl)
+    begin_global (EverValue.Ref n) (Value.Ref w) e is h = subst (λ (y : Value). GlobalFacts z a v m.poll (record { g = g; r = u; k = k; stage = global.stores m.poll.local k y }) None (global.stores m.poll.local k y)) e (stores_so (ap is_number is) (ap is_number_value e) (is_mark m.poll.local.view.phase))
+    begin_global EverValue.Nil (Value.Int w) e is h = absurd h
+    begin_global EverValue.Nil (Value.Ref w) e is h = absurd h
+    begin_global (EverValue.Int n) Value.Nil e is h = absurd h
+    begin_global (EverValue.Int n) (Value.Ref w) e is h = absurd h
+    begin_global (EverValue.Ref n) Value.Nil e is h = absurd h
+    begin_global (EverValue.Ref n) (Value.Int w) e is h = absurd h
 
 -- from rest
 begins_idle : Known → (z : Arena) (a : ℕ) (v : View) (m : Processor) (o : Op) → Good z v → ShapesAreGood z.shapes → Steady z a v m → HasCached a v m → MayBegin z a v o → ProcessorFacts z a v (begins z.shapes m o) None
-begins_idle k z a v m (op.New g d t) good sg st right may =
+begins_idle k z a v m (Op.New g d t) good sg st right may =
     let sound = k.wants.sound z.shapes g d t sg.fit may.2 (goroutine_few z a g may.0.of, may.1) in
     seek-begins k z a v m (wanted_of z.shapes g d t) false sound.sought (record { runs = may.0; register = may.1; type = may.2; few = may.3; is = refl }) st right
-begins_idle k z a v m (op.Load g d b i) good sg st right may = record { counts = st.0; knows = st.1; right = right; task = begin_load z a v g d b i (v.ever.register g b) (register_of m g b) may.0 may.1 may.2 refl (st.1.stands.registers g b may.0.of may.2) }
-begins_idle k z a v m (op.Store g b i u) good sg st right may = record { counts = st.0; knows = st.1; right = right; task = begin_store z a v m.poll g b i u (v.ever.register g b) (register_of m g b) may.0 may.1 may.2 refl (st.1.stands.registers g b may.0.of may.1) }
-begins_idle k z a v m (op.GetGlobal g d i) good sg st right may = record { counts = st.0; knows = st.1; right = right; task = (may.0, may.1, may.2, refl) }
-begins_idle k z a v m (op.SetGlobal g i u) good sg st right may = record { counts = st.0; knows = st.1; right = right; task = begin_global z a v k good m g i u st may.0 may.1 may.2 (v.ever.register g u) (register_of m g u) refl refl (st.1.stands.registers g u may.0.of may.1) }
-begins_idle k z a v m (op.Int g d n) good sg st right may = record { counts = st.0; knows = st.1; right = right; task = (may.0, may.1, refl) }
-begins_idle k z a v m (op.Move g d r) good sg st right may = record { counts = st.0; knows = st.1; right = right; task = (may.0, may.1, may.2, refl) }
-begins_idle k z a v m (op.Nil g d) good sg st right may = record { counts = st.0; knows = st.1; right = right; task = (may.0, may.1, refl) }
-begins_idle k z a v m (op.Gc g) good sg st right may = let w = k.waits.begins z a v m.poll (right, st.1) in record { counts = st.0; knows = w.1; right = w.0; task = refl }
-begins_idle k z a v m op.Poll good sg st right may = let p = k.polls.begins z a v m.poll false (right, st.1) in record { counts = st.0; knows = p.1; right = p.0; task = refl }
-begins_idle k z a v m (op.End g) good sg st right may = record { counts = st.0; knows = st.1; right = right; task = (may, refl) }
-begins_idle k z a v m op.Leave good sg st right may = let x = k.leaves.begins z a v m.poll (right, st.1) in record { counts = st.0; knows = x.1; right = x.0; task = refl }
+begins_idle k z a v m (Op.Load g d b i) good sg st right may = record { counts = st.0; knows = st.1; right = right; task = begin_load z a v g d b i (v.ever.register g b) (register_of m g b) may.0 may.1 may.2 refl (st.1.stands.registers g b may.0.of may.2) }
+begins_idle k z a v m (Op.Store g b i u) good sg st right may = record { counts = st.0; knows = st.1; right = right; task = begin_store z a v m.poll g b i u (v.ever.register g b) (register_of m g b) may.0 may.1 may.2 refl (st.1.stands.registers g b may.0.of may.1) }
+begins_idle k z a v m (Op.GetGlobal g d i) good sg st right may = record { counts = st.0; knows = st.1; right = right; task = (may.0, may.1, may.2, refl) }
+begins_idle k z a v m (Op.SetGlobal g i u) good sg st right may = record { counts = st.0; knows = st.1; right = right; task = begin_global z a v k good m g i u st may.0 may.1 may.2 (v.ever.register g u) (register_of m g u) refl refl (st.1.stands.registers g u may.0.of may.1) }
+begins_idle k z a v m (Op.Int g d n) good sg st right may = record { counts = st.0; knows = st.1; right = right; task = (may.0, may.1, refl) }
+begins_idle k z a v m (Op.Move g d r) good sg st right may = record { counts = st.0; knows = st.1; right = right; task = (may.0, may.1, may.2, refl) }
+begins_idle k z a v m (Op.Nil g d) good sg st right may = record { counts = st.0; knows = st.1; right = right; task = (may.0, may.1, refl) }
+begins_idle k z a v m (Op.Gc g) good sg st right may = let w = k.waits.begins z a v m.poll (right, st.1) in record { counts = st.0; knows = w.1; right = w.0; task = refl }
+begins_idle k z a v m Op.Poll good sg st right may = let p = k.polls.begins z a v m.poll false (right, st.1) in record { counts = st.0; knows = p.1; right = p.0; task = refl }
+begins_idle k z a v m (Op.End g) good sg st right may = record { counts = st.0; knows = st.1; right = right; task = (may, refl) }
+begins_idle k z a v m Op.Leave good sg st right may = let x = k.leaves.begins z a v m.poll (right, st.1) in record { counts = st.0; knows = x.1; right = x.0; task = refl }
 
 -- one that has left begins nothing
 module _ (k : Known) (z : Arena) (a : ℕ) (v : View) (m : Processor) (o : Op) (good : Good z v) (sg : ShapesAreGood z.shapes) (fine : ProcessorFacts z a v m None) (may : has_left_at m.task ≡ false → MayBegin z a v o) where
   abbrev Begun : Bool → Type 0
   Begun left = ProcessorFacts z a v (cond left m (begins z.shapes m o)) None
 
-  begun_idle : m.task ≡ task.Idle → Begun false
+  begun_idle : m.task ≡ Task.Idle → Begun false
   begun_idle e = grind (arith, begins_idle)
 
   begun_at : (q : Task) → m.task ≡ q → is_busy_at q ≡ false → Begun (has_left_at m.task)

@@ -1,14 +1,7 @@
 -- The cached spans: each at the place of its span class, and which spans they list.
-use Rattle.std.proofs.Common.{◌≡◌, ◌≢◌, ℕ, zero, suc, ◌<◌, Bool, true, false, cond, eqb, List, [], ◌∷◌, length, get_or, Option, Some, None, refl, sym, ap, subst, ◌∙◌, arith, get_or-set_same, get_or-set_other, length-set}
-use Rattle.std.specs.Prelude.{◌||◌}
-use Rattle.std.proofs.Math.ListN.{set}
-use Rattle.std.proofs.lemmas.Bool.{eqb-true, eqb-false}
-use Rattle.gh_mutator_heap.proofs.Owning.Vocabulary.{cache_with, cached_in, lists}
-use Rattle.gh_mutator.specs.Vocabulary.{CachedSpan, Large, Small, Sought, span_index, SpanClass}
-use Rattle.gh_mutator_heap.specs.Vocabulary.{SPAN_CLASSES, View}
-use Rattle.gh_alloc.specs.FindFacts.{IsCached, cached_head, with_span}
-use Rattle.gh_base.specs.Reading.{set_twice}
-use Rattle.gh_poll.specs.Give.{span_class}
+use Rattle.std.proofs.Common.{◌≡◌, ◌≢◌, ℕ, zero, suc, ◌<◌, Bool, true, false, cond, eqb, List, [], ◌∷◌, length, get_or, Option, Some, None, refl, sym, ap, subst, ◌∙◌, arith, get_or-set_same, get_or-set_other, length-set, ◌||◌}
+use Rattle.std.proofs.lemmas.Bool.{eqb-true}
+use Rattle.gh_mutator_heap.proofs.Vocabulary.{cache_with, cached_head, cached_in, CachedSpan, eqb-false, IsCached, Large, lists, set, set_twice, Small, Sought, span_class, SPAN_CLASSES, span_index, SpanClass, View, with_span}
 use Rattle.gh_mutator_heap.proofs.Holding.Lists.{head_tells, index_of, listed_at}
 
 -- The place of a span class tells it.

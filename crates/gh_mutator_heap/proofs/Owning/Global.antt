@@ -1,28 +1,8 @@
 -- Own steps of the load and the store of a global.
 use Rattle.std.proofs.Common.{◌≡◌, ℕ, ◌*◌, ◌%◌, ◌<◌, ◌⊎◌, Bool, true, false, cond, [], ◌∷◌, ◌++◌, Option, None, inl, inr, refl, sym, ap, subst, ◌∙◌}
-use Rattle.std.specs.Option.{option_to_list}
-use Rattle.gh_mutator_heap.proofs.Owning.Vocabulary.{acted, acting, answered, answered_at, asks, Does, ends, ProcessorFacts, Act, at_task, FullAt, lists, OwnStepAt, register_of, value_of, word_of_value}
-use Rattle.gh_base.specs.declared.cell.Ask.TheVariants as ask
-use Rattle.gh_base.specs.declared.cell.Cell.TheVariants as cell
-use Rattle.gh_base.specs.declared.held.Held.{Held}
-use Rattle.gh_base.specs.declared.operation.Op.TheVariants as op
-use Rattle.gh_barrier.specs.declared.pointer_cell.PointerCell.{PointerCell}
-use Rattle.gh_barrier.specs.declared.pointer_cell.PointerCell.TheVariants as pointer_cell
-use Rattle.gh_barrier.specs.Listing.{Writing as PointerWrite}
+use Rattle.gh_mutator_heap.proofs.Vocabulary.{Act, acted, acting, after_write, Answer, answer_of, answered, answered_at, Arena, Ask, asks, at_stage, at_task, Cell, cell_of, Does, ends, ever_after, EverValue, Fault, FullAt, Global, GlobalStage, Good, GoroutineRuns, Held, held_behind, held_then, is_number, keeping, lists, Means, moved, Name, naming, Op, option_to_list, OwnStepAt, PointerCell, PointerWrite, Processor, ProcessorFacts, Quiet, Reach, register_of, REGISTERS, Shared, step, Steps, Takes, takes_value, Task, Value, value_of, View, view, with_global, word_of_value, WriteGlobal, WritesIt}
 use Rattle.gh_barrier.specs.Listing as write
-use Rattle.gh_base.specs.declared.value.Answer.TheVariants as answer
-use Rattle.gh_base.specs.declared.value.Fault.TheVariants as fault
-use Rattle.gh_model.specs.Ever.{with_global}
-use Rattle.gh_heap.specs.Moves.{WriteGlobal}
-use Rattle.gh_mutator.specs.Vocabulary.{Ask, cell_of, Op, Value, Answer, Name, REGISTERS}
-use Rattle.gh_mutator_heap.specs.Vocabulary.{EverValue, is_number, Steps, answer_of, Arena, ever_after, Good, Means, moved, Quiet, Reach, GoroutineRuns, Shared, Takes, View, view, Global, GlobalStage, Processor, Task}
-use Rattle.gh_mutator.specs.declared.global.GlobalStage.TheVariants as global_stage
-use Rattle.gh_mutator.specs.declared.task.Task.TheVariants as task
-use Rattle.gh_mutator.specs.Fields.{takes as takes_value}
-use Rattle.gh_poll.specs.Barrier.{held_then, WritesIt}
-use Rattle.gh_mutator.specs.Global.{after_write, at_stage, held_behind, naming, step}
 use Rattle.gh_mutator.specs.Global as global
-use Rattle.gh_mutator.specs.Processor.{keeping}
 use Rattle.gh_mutator_heap.proofs.Owning.Barrier.{goes_so, held_so, IsBefore, IsLast, steady_held, step_is, word_written}
 use Rattle.gh_mutator_heap.proofs.Owning.Known.{Known}
 use Rattle.gh_mutator_heap.proofs.Owning.Objects.{fits_pointer, global_means, global_reached, name_found, register_reached, takes_told, word_holds}
@@ -32,35 +12,35 @@ use Rattle.gh_mutator_heap.proofs.Owning.Steady.{HasCached, rights_with, Steady,
 -- The load.
 
 abbrev at : Global → GlobalStage → Task
-at x q = task.Global (at_stage x q)
+at x q = Task.Global (at_stage x q)
 
-load_now : Known → (x : Global) (z : Arena) (a : ℕ) (s : Shared) (m : Processor) → Good z (view s) → Steady z a (view s) m → HasCached a (view s) m → GoroutineRuns z (view s) a x.g → x.r < REGISTERS → x.k < z.layout.globals → StepFrom z a s (at_task m (at x global_stage.Load)) None
+load_now : Known → (x : Global) (z : Arena) (a : ℕ) (s : Shared) (m : Processor) → Good z (view s) → Steady z a (view s) m → HasCached a (view s) m → GoroutineRuns z (view s) a x.g → x.r < REGISTERS → x.k < z.layout.globals → StepFrom z a s (at_task m (at x GlobalStage.Load)) None
 load_now k x z a s m good steady right runs low few =
-    let means : Means s.place s.ever.made (s.ever.global x.k) (value_of z.layout.pages true (s.words (cell.Global x.k))) = global_means k z (view s) good x.k few in
-    let t = took Global task.Global z a s m x.g x.r (op.GetGlobal x.g x.r x.k) steady right (naming x) (λ at v y pending st ri t. record { counts = st.0; knows = st.1; right = ri; task = t }) runs low k (cell.Global x.k) (s.ever.global x.k) _ means refl (takes_told s.ever x.g x.r (s.ever.global x.k)) in
+    let means : Means s.place s.ever.made (s.ever.global x.k) (value_of z.layout.pages true (s.words (Cell.Global x.k))) = global_means k z (view s) good x.k few in
+    let t = took Global Task.Global z a s m x.g x.r (Op.GetGlobal x.g x.r x.k) steady right (naming x) (λ at v y pending st ri t. record { counts = st.0; knows = st.1; right = ri; task = t }) runs low k (Cell.Global x.k) (s.ever.global x.k) _ means refl (takes_told s.ever x.g x.r (s.ever.global x.k)) in
     record {
-      move = Takes (ask.Load (cell.Global x.k)) x.g x.r (s.ever.global x.k);
+      move = Takes (Ask.Load (Cell.Global x.k)) x.g x.r (s.ever.global x.k);
       may = (tt, runs, low, global_reached s.ever x.k (s.ever.global x.k) refl);
       words_are = refl;
-      after = record { after = t.after; fine = t.fine; ever = t.ever; answers = t.answers; full = λ y is full. absurd (not_full (takes_value (naming x) (value_of z.layout.pages true (s.words (cell.Global x.k)))).acts (op.GetGlobal x.g x.r x.k) y is full); counts = tt };
+      after = record { after = t.after; fine = t.fine; ever = t.ever; answers = t.answers; full = λ y is full. absurd (not_full (takes_value (naming x) (value_of z.layout.pages true (s.words (Cell.Global x.k)))).acts (Op.GetGlobal x.g x.r x.k) y is full); counts = tt };
     }
 
-load_step : Known → (x : Global) → StepAt (at x global_stage.Load)
-load_step k x z a s m pending shapes good f = subst (λ (y : Option Answer). StepFrom z a s (at_task m (at x global_stage.Load)) y) (sym f.task.3) (load_now k x z a s m good (f.counts, f.knows) f.right f.task.0 f.task.1 f.task.2)
+load_step : Known → (x : Global) → StepAt (at x GlobalStage.Load)
+load_step k x z a s m pending shapes good f = subst (λ (y : Option Answer). StepFrom z a s (at_task m (at x GlobalStage.Load)) y) (sym f.task.3) (load_now k x z a s m good (f.counts, f.knows) f.right f.task.0 f.task.1 f.task.2)
 
-birth_step : Known → (x : Global) (at_word : ℕ) → StepAt (at x (global_stage.Birth at_word))
+birth_step : Known → (x : Global) (at_word : ℕ) → StepAt (at x (GlobalStage.Birth at_word))
 birth_step k x at_word z a s m pending shapes good f =
     let steady : Steady z a (view s) m = (f.counts, f.knows) in
     record {
-      move = Quiet (ask.Load (cell.Birth (at_word % (1024 * z.layout.pages))));
+      move = Quiet (Ask.Load (Cell.Birth (at_word % (1024 * z.layout.pages))));
       may = tt;
       words_are = refl;
       after = record {
         after = None;
         fine = idle z a (view s) m steady f.right;
         ever = refl;
-        answers = ap option_to_list f.task.answers ∙ ap (λ (n : Name). answer.Ref n ∷ []) (sym (name_found k z (view s) good f.task.n f.task.through.made (Reach.from_register x.g x.r f.task.n f.task.through.runs.goes_on f.task.through.names) at_word f.task.through.here));
-        full = not_at_point (λ (y : Act). FullAt z a (view s) (at_task m (at x (global_stage.Birth at_word))) y.op);
+        answers = ap option_to_list f.task.answers ∙ ap (λ (n : Name). Answer.Ref n ∷ []) (sym (name_found k z (view s) good f.task.n f.task.through.made (Reach.from_register x.g x.r f.task.n f.task.through.runs.goes_on f.task.through.names) at_word f.task.through.here));
+        full = not_at_point (λ (y : Act). FullAt z a (view s) (at_task m (at x (GlobalStage.Birth at_word))) y.op);
         counts = tt;
       };
     }
@@ -69,7 +49,7 @@ birth_step k x at_word z a s m pending shapes good f =
 
 module _ (k : Known) (x : Global) (z : Arena) (a : ℕ) (s : Shared) (m : Processor) (steady : Steady z a (view s) m) (right : HasCached a (view s) m) (runs : GoroutineRuns z (view s) a x.g) (low : x.r < REGISTERS) (few : x.k < z.layout.globals) (plain : is_number (s.ever.register x.g x.r) ≡ false) where
   abbrev o : Op
-  o = op.SetGlobal x.g x.k x.r
+  o = Op.SetGlobal x.g x.k x.r
 
   abbrev stored : EverValue
   stored = s.ever.register x.g x.r
@@ -83,14 +63,14 @@ module _ (k : Known) (x : Global) (z : Arena) (a : ℕ) (s : Shared) (m : Proces
   means : Means s.place s.ever.made stored held
   means = steady.1.stands.registers x.g x.r runs.of low
 
-  is : answer_of z.shapes s.ever o ≡ answer.Done
-  is = ap (λ (b : Bool). cond b (answer.Fault fault.Kind) answer.Done) plain
+  is : answer_of z.shapes s.ever o ≡ Answer.Done
+  is = ap (λ (b : Bool). cond b (Answer.Fault Fault.Kind) Answer.Done) plain
 
   next : ever_after z.shapes s.ever o (answer_of z.shapes s.ever o) ≡ with_global s.ever x.k stored
   next = ap (λ (b : Answer). ever_after z.shapes s.ever o b) is
 
   -- with this buffer held then
-  lands : (q : GlobalStage) (h : Option Held) → Steady z a (view s) (keeping m h) → Comes Global task.Global z a s t (keeping m h) x.g x.r o None (ends answer.Done)
+  lands : (q : GlobalStage) (h : Option Held) → Steady z a (view s) (keeping m h) → Comes Global Task.Global z a s t (keeping m h) x.g x.r o None (ends Answer.Done)
   unfolding t
   lands q h st = record {
     after = None;
@@ -99,7 +79,7 @@ module _ (k : Known) (x : Global) (z : Arena) (a : ℕ) (s : Shared) (m : Proces
     answers = ap (λ (b : Answer). b ∷ []) is;
   }
 
-  stored_by : (request : Ask) (P : Shared → Type 0) → request ≡ ask.Store (cell.Global x.k) (word_of_value held) → P t → Steps z a s request P
+  stored_by : (request : Ask) (P : Shared → Type 0) → request ≡ Ask.Store (Cell.Global x.k) (word_of_value held) → P t → Steps z a s request P
   unfolding t
   stored_by request P same p = subst (λ (y : Ask). Steps z a s y P) (sym same) (record {
     move = WriteGlobal x.k stored (word_of_value held);
@@ -114,7 +94,7 @@ module _ (k : Known) (x : Global) (z : Arena) (a : ℕ) (s : Shared) (m : Proces
   abbrev word : GlobalStage → ℕ
   word q = s.words (cell_of (asks z.layout (here q)))
 
-  does : (q : GlobalStage) (u : Shared) → global.op_of (at_stage x q) ≡ o → Comes Global task.Global z a s u (keeping m (held_behind z.layout m.poll.local.held q (word q))) x.g x.r o None (step z.layout held (at_stage x q) (word q)) → Does z a s u (here q) None (word q)
+  does : (q : GlobalStage) (u : Shared) → global.op_of (at_stage x q) ≡ o → Comes Global Task.Global z a s u (keeping m (held_behind z.layout m.poll.local.held q (word q))) x.g x.r o None (step z.layout held (at_stage x q) (word q)) → Does z a s u (here q) None (word q)
   does q u of c = record {
     after = c.after;
     fine = c.fine;
@@ -124,25 +104,25 @@ module _ (k : Known) (x : Global) (z : Arena) (a : ℕ) (s : Shared) (m : Proces
     counts = tt;
   }
 
-  store_now : StepFrom z a s (here global_stage.Store) None
-  store_now = stored_by (asks z.layout (here global_stage.Store)) (λ u. Does z a s u (here global_stage.Store) None (word global_stage.Store)) refl (does global_stage.Store t refl (lands global_stage.Store m.poll.local.held steady))
+  store_now : StepFrom z a s (here GlobalStage.Store) None
+  store_now = stored_by (asks z.layout (here GlobalStage.Store)) (λ u. Does z a s u (here GlobalStage.Store) None (word GlobalStage.Store)) refl (does GlobalStage.Store t refl (lands GlobalStage.Store m.poll.local.held steady))
 
   -- A step of its write.
-  module _ (w : PointerWrite) (it : WritesIt z.layout (pointer_cell.Global x.k) held w) where
+  module _ (w : PointerWrite) (it : WritesIt z.layout (PointerCell.Global x.k) held w) where
     abbrev stage : GlobalStage
-    stage = global_stage.Writing w
+    stage = GlobalStage.Writing w
 
     steady-then : Steady z a (view s) (keeping m (held_then z.layout w (word stage)))
-    steady-then = steady_held z a (view s) m (held_then z.layout w (word stage)) (held_so k z.layout (pointer_cell.Global x.k) held w (word stage) it) steady
+    steady-then = steady_held z a (view s) m (held_then z.layout w (word stage)) (held_so k z.layout (PointerCell.Global x.k) held w (word stage) it) steady
 
     abbrev beside : Shared
     beside = moved z a s (Quiet (write.asks w))
 
-    writes_on : IsBefore z.layout w (word stage) → Comes Global task.Global z a s beside (keeping m (held_then z.layout w (word stage))) x.g x.r o None (after_write x (write.goes z.layout w (word stage)) (write.gives z.layout w (word stage)))
-    writes_on b = subst (λ (y : Option (Unit {0})). Comes Global task.Global z a s beside (keeping m (held_then z.layout w (word stage))) x.g x.r o None (after_write x (write.goes z.layout w (word stage)) y)) (sym b.goes_on) (record {
+    writes_on : IsBefore z.layout w (word stage) → Comes Global Task.Global z a s beside (keeping m (held_then z.layout w (word stage))) x.g x.r o None (after_write x (write.goes z.layout w (word stage)) (write.gives z.layout w (word stage)))
+    writes_on b = subst (λ (y : Option (Unit {0})). Comes Global Task.Global z a s beside (keeping m (held_then z.layout w (word stage))) x.g x.r o None (after_write x (write.goes z.layout w (word stage)) y)) (sym b.goes_on) (record {
       after = None;
-      fine = subst (λ (v : View). ProcessorFacts z a v (at_task (keeping m (held_then z.layout w (word stage))) (task.Global (at_stage x (global_stage.Writing (write.goes z.layout w (word stage)))))) None) (sym (b.leaves.same z a s))
-          (record { counts = steady-then.0; knows = steady-then.1; right = right; task = (runs, low, few, plain, goes_so k z.layout (pointer_cell.Global x.k) held w (word stage) it b.goes_on, refl) });
+      fine = subst (λ (v : View). ProcessorFacts z a v (at_task (keeping m (held_then z.layout w (word stage))) (Task.Global (at_stage x (GlobalStage.Writing (write.goes z.layout w (word stage)))))) None) (sym (b.leaves.same z a s))
+          (record { counts = steady-then.0; knows = steady-then.1; right = right; task = (runs, low, few, plain, goes_so k z.layout (PointerCell.Global x.k) held w (word stage) it b.goes_on, refl) });
       ever = refl;
       answers = refl;
     })
@@ -150,41 +130,41 @@ module _ (k : Known) (x : Global) (z : Arena) (a : ℕ) (s : Shared) (m : Proces
     write_now : IsBefore z.layout w (word stage) ⊎ IsLast z.layout w (word stage) → StepFrom z a s (here stage) None
     write_now (inl b) = record { move = Quiet (write.asks w); may = b.leaves.quiet; words_are = refl; after = does stage beside refl (writes_on b) }
     write_now (inr b) = stored_by (write.asks w) (λ u. Does z a s u (here stage) None (word stage))
-        (b.stores ∙ ap (λ (c : PointerCell). ask.Store (write.cell_at c) (write.pointer_word w.pointer)) it.same_cell ∙ ap (λ (n : ℕ). ask.Store (cell.Global x.k) n) (word_written z.layout (pointer_cell.Global x.k) held w it))
+        (b.stores ∙ ap (λ (c : PointerCell). Ask.Store (write.cell_at c) (write.pointer_word w.pointer)) it.same_cell ∙ ap (λ (n : ℕ). Ask.Store (Cell.Global x.k) n) (word_written z.layout (PointerCell.Global x.k) held w it))
         (does stage t refl
-        (subst (λ (y : Option (Unit {0})). Comes Global task.Global z a s t (keeping m (held_then z.layout w (word stage))) x.g x.r o None (after_write x (write.goes z.layout w (word stage)) y)) (sym b.ends) (lands stage (held_then z.layout w (word stage)) steady-then)))
+        (subst (λ (y : Option (Unit {0})). Comes Global Task.Global z a s t (keeping m (held_then z.layout w (word stage))) x.g x.r o None (after_write x (write.goes z.layout w (word stage)) y)) (sym b.ends) (lands stage (held_then z.layout w (word stage)) steady-then)))
 
-store_step : Known → (x : Global) → StepAt (at x global_stage.Store)
-store_step k x z a s m pending shapes good f = subst (λ (y : Option Answer). StepFrom z a s (at_task m (at x global_stage.Store)) y) (sym f.task.4) (store_now k x z a s m (f.counts, f.knows) f.right f.task.0 f.task.1 f.task.2 f.task.3)
+store_step : Known → (x : Global) → StepAt (at x GlobalStage.Store)
+store_step k x z a s m pending shapes good f = subst (λ (y : Option Answer). StepFrom z a s (at_task m (at x GlobalStage.Store)) y) (sym f.task.4) (store_now k x z a s m (f.counts, f.knows) f.right f.task.0 f.task.1 f.task.2 f.task.3)
 
-write_step : Known → (x : Global) (w : PointerWrite) → StepAt (at x (global_stage.Writing w))
-write_step k x w z a s m pending shapes good f = subst (λ (y : Option Answer). StepFrom z a s (at_task m (at x (global_stage.Writing w))) y) (sym f.task.5)
+write_step : Known → (x : Global) (w : PointerWrite) → StepAt (at x (GlobalStage.Writing w))
+write_step k x w z a s m pending shapes good f = subst (λ (y : Option Answer). StepFrom z a s (at_task m (at x (GlobalStage.Writing w))) y) (sym f.task.5)
     (write_now k x z a s m (f.counts, f.knows) f.right f.task.0 f.task.1 f.task.2 f.task.3 w f.task.4 (step_is z.layout w _ f.task.4.busy))
 
-number_step : (x : Global) → StepAt (at x global_stage.Number)
+number_step : (x : Global) → StepAt (at x GlobalStage.Number)
 number_step x z a s m pending shapes good f =
     let steady : Steady z a (view s) m = (f.counts, f.knows) in
-    let answers : answer_of z.shapes s.ever (op.SetGlobal x.g x.k x.r) ≡ answer.Fault fault.Kind = ap (λ (b : Bool). cond b (answer.Fault fault.Kind) answer.Done) f.task.1 in
+    let answers : answer_of z.shapes s.ever (Op.SetGlobal x.g x.k x.r) ≡ Answer.Fault Fault.Kind = ap (λ (b : Bool). cond b (Answer.Fault Fault.Kind) Answer.Done) f.task.1 in
     record {
-      move = Quiet (ask.Load cell.Touch);
+      move = Quiet (Ask.Load Cell.Touch);
       may = tt;
       words_are = refl;
       after = record {
         after = None;
         fine = idle z a (view s) m steady f.right;
-        ever = sym (ap (λ (b : Answer). ever_after z.shapes s.ever (op.SetGlobal x.g x.k x.r) b) answers);
-        answers = answered_once (answer_of z.shapes s.ever (op.SetGlobal x.g x.k x.r)) _ pending f.task.2 (ap (λ (b : Answer). b ∷ []) answers);
-        full = has_room (λ (y : Act). FullAt z a (view s) (at_task m (at x global_stage.Number)) y.op) (op.SetGlobal x.g x.k x.r);
+        ever = sym (ap (λ (b : Answer). ever_after z.shapes s.ever (Op.SetGlobal x.g x.k x.r) b) answers);
+        answers = answered_once (answer_of z.shapes s.ever (Op.SetGlobal x.g x.k x.r)) _ pending f.task.2 (ap (λ (b : Answer). b ∷ []) answers);
+        full = has_room (λ (y : Act). FullAt z a (view s) (at_task m (at x GlobalStage.Number)) y.op) (Op.SetGlobal x.g x.k x.r);
         counts = tt;
       };
     }
 
 step_at : Known → (x : Global) (q : GlobalStage) → StepAt (at x q)
-step_at k x global_stage.Load = load_step k x
-step_at k x (global_stage.Birth at_word) = birth_step k x at_word
-step_at k x global_stage.Store = store_step k x
-step_at k x (global_stage.Writing w) = write_step k x w
-step_at k x global_stage.Number = number_step x
+step_at k x GlobalStage.Load = load_step k x
+step_at k x (GlobalStage.Birth at_word) = birth_step k x at_word
+step_at k x GlobalStage.Store = store_step k x
+step_at k x (GlobalStage.Writing w) = write_step k x w
+step_at k x GlobalStage.Number = number_step x
 
-pub global_steps : Known → (x : Global) → OwnStepAt (task.Global x)
-global_steps k x = at_its_task (task.Global x) (step_at k x x.stage)
+pub global_steps : Known → (x : Global) → OwnStepAt (Task.Global x)
+global_steps k x = at_its_task (Task.Global x) (step_at k x x.stage)

@@ -1,19 +1,9 @@
 -- What is known of a processor lasts, whatever others do.
 use Rattle.std.proofs.Common.{◌≡◌, ℕ, ◌<◌, Bool, true, List, Option, sym, subst, ◌∙◌, arith}
-use Rattle.gh_mutator_heap.proofs.Owning.Vocabulary.{FactsAt, for_whom, GlobalFacts, HasAt, IsPlain, KnowsAt, KnowsCounts, LoadFacts, Loads, Makes, NewFacts, RegisterFacts, rest, Rests, Searches, StoreFacts, Stores, Takes, Through, Wants}
-use Rattle.gh_base.specs.Shapes.{is_pointer}
-use Rattle.gh_model.specs.Ever.{field_count}
-use Rattle.gh_heap.specs.Moves.{Others}
-use Rattle.gh_heap.specs.Rights.{Rights}
-use Rattle.gh_heap.specs.Spans.{Freeing, Laying}
+use Rattle.gh_mutator_heap.proofs.Vocabulary.{Answer, Arena, Assist, EverValue, FactsAt, field_count, fits, for_whom, Freeing, freeing_new, Global, GlobalFacts, GlobalStage, Good, GoroutineRuns, HasAt, held_new, is_pointer, IsOf, IsPlain, KnowsAt, KnowsCounts, KnowsNew, Lasts, Laying, laying_new, Load, LoadFacts, Loads, LoadStage, locked_new, Makes, MOST_STATEMENTS, Name, NewFacts, NewStage, Others, Placing, Polling, Processor, Register, RegisterFacts, rest, Rests, Rights, Search, Searches, Seeking, shape_at, Source, Store, StoreFacts, Stores, StoreStage, Task, Through, View, Wait, waiting, Want, Wanted, Wants}
+use Rattle.gh_mutator_heap.proofs.Owning.Vocabulary.{Takes}
 use Rattle.gh_alloc.specs.SearchFacts as search
-use Rattle.gh_mutator.specs.Vocabulary.{Polling, Answer, IsOf, Name, Placing, Seeking, shape_at}
-use Rattle.gh_mutator_heap.specs.Vocabulary.{Arena, EverValue, fits, Good, MOST_STATEMENTS, GoroutineRuns, View, Assist, Global, GlobalStage, Load, LoadStage, NewStage, Place, Processor, Register, Search, Source, Store, StoreStage, Task, Wait, Wanted, Want}
-use Rattle.gh_mutator.specs.declared.load.LoadStage.TheVariants as load_stage
-use Rattle.gh_mutator.specs.declared.store.StoreStage.TheVariants as store_stage
-use Rattle.gh_mutator.specs.declared.task.Task.TheVariants as task
-use Rattle.gh_mutator_heap.specs.Facts.{freeing_new, held_new, KnowsNew, Lasts, laying_new, locked_new}
-use Rattle.gh_poll.specs.Wait.{waiting}
+use Rattle.gh_mutator.specs.declared.new.NewStage.TheVariants.{Place}
 use Rattle.gh_mutator_heap.proofs.Holding.Known.{holds_swept, knows_last, stands_last}
 use Rattle.gh_mutator_heap.proofs.Owning.Known.{Known}
 use Rattle.gh_mutator_heap.proofs.Owning.Steady.{counts_with}
@@ -54,33 +44,33 @@ module _ (z : Arena) (a : ℕ) (v w : View) (o : Others z a v w) where
 
   load_lasts : (x : Load) (pending : Option Answer) (q : LoadStage) → LoadFacts z a v x pending q → LoadFacts z a w x pending q
   unfolding loads_last
-  load_lasts x pending load_stage.Page f = loads_last x pending f
-  load_lasts x pending load_stage.Bits f = (loads_last x pending f.0, has_lasts f.0.n x.k f.0.through.made f.1)
-  load_lasts x pending (load_stage.Field p) f = (loads_last x pending f.0, has_lasts f.0.n x.k f.0.through.made f.1, kind_lasts (λ (b : Bool). p ≡ b) f.0.n x.k f.0.through.made f.2)
-  load_lasts x pending (load_stage.Birth at) f = takes_lasts x.g x.d at pending f
-  load_lasts x pending load_stage.NilBase f = (runs_lasts x.g f.0, f.1, of_register IsPlain x.g x.b f.0.of f.2, f.3)
+  load_lasts x pending LoadStage.Page f = loads_last x pending f
+  load_lasts x pending LoadStage.Bits f = (loads_last x pending f.0, has_lasts f.0.n x.k f.0.through.made f.1)
+  load_lasts x pending (LoadStage.Field p) f = (loads_last x pending f.0, has_lasts f.0.n x.k f.0.through.made f.1, kind_lasts (λ (b : Bool). p ≡ b) f.0.n x.k f.0.through.made f.2)
+  load_lasts x pending (LoadStage.Birth at) f = takes_lasts x.g x.d at pending f
+  load_lasts x pending LoadStage.NilBase f = (runs_lasts x.g f.0, f.1, of_register IsPlain x.g x.b f.0.of f.2, f.3)
 
   stores_last : (x : Store) (pending : Option Answer) → Stores z a v x pending → Stores z a w x pending
   stores_last x pending l = record { n = l.n; through = through_lasts x.g x.b x.at l.n l.through; register = l.register; unanswered = l.unanswered }
 
   store_lasts : (p : Polling) (x : Store) (pending : Option Answer) (q : StoreStage) → StoreFacts z a v p x pending q → StoreFacts z a w p x pending q
   unfolding stores_last
-  store_lasts p x pending store_stage.Page f = stores_last x pending f
-  store_lasts p x pending store_stage.Bits f = (stores_last x pending f.0, has_lasts f.0.n x.k f.0.through.made f.1)
-  store_lasts p x pending store_stage.Field f = (
+  store_lasts p x pending StoreStage.Page f = stores_last x pending f
+  store_lasts p x pending StoreStage.Bits f = (stores_last x pending f.0, has_lasts f.0.n x.k f.0.through.made f.1)
+  store_lasts p x pending StoreStage.Field f = (
     stores_last x pending f.0,
     has_lasts f.0.n x.k f.0.through.made f.1,
     kind_lasts (λ (b : Bool). fits b (w.ever.register x.g x.v) ≡ true) f.0.n x.k f.0.through.made
         (of_register (λ (y : EverValue). fits (is_pointer (shape_at z.shapes (v.ever.type_of f.0.n)) x.k) y ≡ true) x.g x.v f.0.through.runs.of f.2),
   )
-  store_lasts p x pending (store_stage.Writing y) f = (
+  store_lasts p x pending (StoreStage.Writing y) f = (
     stores_last x pending f.0,
     has_lasts f.0.n x.k f.0.through.made f.1,
     kind_lasts (λ (b : Bool). fits b (w.ever.register x.g x.v) ≡ true) f.0.n x.k f.0.through.made
         (of_register (λ (y : EverValue). fits (is_pointer (shape_at z.shapes (v.ever.type_of f.0.n)) x.k) y ≡ true) x.g x.v f.0.through.runs.of f.2),
     f.3,
   )
-  store_lasts p x pending store_stage.NilBase f = (runs_lasts x.g f.0, f.1, of_register IsPlain x.g x.b f.0.of f.2, f.3)
+  store_lasts p x pending StoreStage.NilBase f = (runs_lasts x.g f.0, f.1, of_register IsPlain x.g x.b f.0.of f.2, f.3)
 
   global_lasts : (p : Polling) (x : Global) (pending : Option Answer) (q : GlobalStage) → GlobalFacts z a v p x pending q → GlobalFacts z a w p x pending q
   global_lasts p x pending q f = grind arith
@@ -105,11 +95,11 @@ module _ (z : Arena) (a : ℕ) (v w : View) (o : Others z a v w) where
     new_knows (Assist n x) h = rests_last h
 
     known_lasts : (q : Task) → KnowsAt z a v m.poll q → KnowsAt z a w m.poll q
-    known_lasts task.Left h = stands_last z a v w o m.poll h
-    known_lasts (task.New x) h = new_knows x.stage h
-    known_lasts (task.Gc g x) h = k.waits.lasts z a v w (waiting x m.poll) good o h
-    known_lasts task.Poll h = k.polls.lasts z a v w m.poll good o h
-    known_lasts (task.Leave x) h = k.leaves.lasts z a v w m.poll x good o h
+    known_lasts Task.Left h = stands_last z a v w o m.poll h
+    known_lasts (Task.New x) h = new_knows x.stage h
+    known_lasts (Task.Gc g x) h = k.waits.lasts z a v w (waiting x m.poll) good o h
+    known_lasts Task.Poll h = k.polls.lasts z a v w m.poll good o h
+    known_lasts (Task.Leave x) h = k.leaves.lasts z a v w m.poll x good o h
     known_lasts _ h = rests_last h
 
     -- The operation that it is at.

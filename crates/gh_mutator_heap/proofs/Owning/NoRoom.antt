@@ -1,27 +1,12 @@
 -- A new object's search ends with no room: the second time the statement is answered `full`, the first time it waits for a cycle.
 use Rattle.std.proofs.Common.{◌≡◌, ℕ, ◌+◌, ◌<◌, ◌≤◌, Bool, true, false, length, get_or, Option, Some, None, refl, sym, ap, subst, ◌∙◌, arith}
-use Rattle.gh_mutator_heap.proofs.Owning.Vocabulary.{Act, at_task, cache_span, cache_with, cached_in, CachesAll, Does, FullAt, lists, rest, Searches, searches, set_register}
-use Rattle.gh_mutator.specs.Vocabulary.{CachedSpan, Finding, NoRoom, Op, Seeking, shape_at, Small, Sought, SpanClass}
-use Rattle.gh_mutator_heap.specs.Vocabulary.{Arena, Good, IsSought, KeepsItsOwn, moved, page_of, Right, Shared, SPAN_CLASSES, SpanHead, Steps, View, view, with_register, Processor, Wanted}
-use Rattle.gh_base.specs.declared.cell.Cell.TheVariants as cell
-use Rattle.gh_base.specs.declared.pack.PageWord.TheVariants as page
-use Rattle.gh_base.specs.declared.value.Value.TheVariants as value
-use Rattle.gh_class.specs.declared.class.SizeClass.TheVariants as size
-use Rattle.gh_model.specs.declared.EverValue.TheVariants as ever
-use Rattle.gh_heap.specs.Moves.{LeaveLock, Refuse}
-use Rattle.gh_heap.specs.Spans.{IsFull, owner_in}
+use Rattle.gh_mutator_heap.proofs.Vocabulary.{Act, Arena, at_task, cache_span, cache_with, cached_in, CachedSpan, CachesAll, Cell, Does, EverValue, Finding, FindStage, FoundNone, FullAt, Good, IsFull, IsSought, KeepsItsOwn, LeaveLock, lists, moved, NoRoom, Op, owner_in, page_of, PageWord, Processor, Refuse, rest, Right, Searches, searches, SearchStage, Seeking, set_register, shape_at, Shared, SizeClass, Small, Sought, sought_for, span_class, SPAN_CLASSES, SpanClass, SpanHead, Steps, Value, View, view, Waits, Wanted, with_register}
 use Rattle.gh_alloc.specs.declared.find.After.TheVariants as After
-use Rattle.gh_alloc.specs.declared.find.FindStage.TheVariants as finder_stage
-use Rattle.gh_alloc.specs.declared.search.SearchStage.TheVariants as search_stage
 use Rattle.gh_alloc.specs.Find as finder
 use Rattle.gh_alloc.specs.FindFacts as find
 use Rattle.gh_alloc.specs.Search as searcher
 use Rattle.gh_alloc.specs.SearchFacts as search
-use Rattle.gh_mutator_heap.specs.Facts.{FoundNone}
-use Rattle.gh_mutator.specs.New.{sought_for}
-use Rattle.gh_mutator_heap.specs.PollHeapLaws.{Waits}
 use Rattle.gh_poll.specs.Wait as wait
-use Rattle.gh_poll.specs.Give.{span_class}
 use Rattle.gh_mutator_heap.proofs.Holding.Known.{holds_swept}
 use Rattle.gh_mutator_heap.proofs.Holding.Lists.{index_of, listed_at}
 use Rattle.gh_mutator_heap.proofs.Owning.Cache.{cached-same}
@@ -29,7 +14,7 @@ use Rattle.gh_mutator_heap.proofs.Owning.Known.{Known}
 use Rattle.gh_mutator_heap.proofs.Owning.Searching.{caches-then, held-then, none-large, rest-held, same_wants, steady-cached}
 use Rattle.gh_mutator_heap.proofs.Owning.Steady.{HasCached, long_then, Steady, steady_on, steady_register}
 
-same-by : (c d : SpanClass) → size.Small c.class ≡ size.Small d.class → c.noscan ≡ d.noscan → c ≡ d
+same-by : (c d : SpanClass) → SizeClass.Small c.class ≡ SizeClass.Small d.class → c.noscan ≡ d.noscan → c ≡ d
 same-by c d e f = grind arith
 
 module _ (k : Known) (z : Arena) (a : ℕ) (s : Shared) (m : Processor) (x : Wanted) (f : Finding) where
@@ -38,7 +23,7 @@ module _ (k : Known) (z : Arena) (a : ℕ) (s : Shared) (m : Processor) (x : Wan
 
   -- the search at its last step
   abbrev last : Seeking
-  last = record { find = finder.at_stage f (finder_stage.Unlock (After.End NoRoom)); stage = search_stage.Second }
+  last = record { find = finder.at_stage f (FindStage.Unlock (After.End NoRoom)); stage = SearchStage.Second }
 
   abbrev searching : Bool → Processor
   searching waited = at_task m (searches x waited last)
@@ -73,7 +58,7 @@ module _ (k : Known) (z : Arena) (a : ℕ) (s : Shared) (m : Processor) (x : Wan
     wanted = r.wanted ∙ same
 
     -- what it owns is cached for another span class
-    own-none : (c : SpanClass) (p : ℕ) (h : SpanHead) → x.sought ≡ Small c → page_of (before.page p) ≡ page.Head h → h.class ≡ size.Small c.class → h.noscan ≡ c.noscan → h.owner ≡ a + 1 → ⊥
+    own-none : (c : SpanClass) (p : ℕ) (h : SpanHead) → x.sought ≡ Small c → page_of (before.page p) ≡ PageWord.Head h → h.class ≡ SizeClass.Small c.class → h.noscan ≡ c.noscan → h.owner ≡ a + 1 → ⊥
     own-none c p h e head class noscan owner =
         let holds : before.holds a p ≡ true = (g.owners a p).0 (ap owner_in head ∙ owner) in
         let listed : lists (cache_with m.poll.local.cache x.sought None) p ≡ true = sym (ap (λ (j : Option CachedSpan). find.with_span (find.cached_head j) (rest m x) p) none.none.cached) ∙ sym (right.holds p) ∙ holds in
@@ -83,18 +68,18 @@ module _ (k : Known) (z : Arena) (a : ℕ) (s : Shared) (m : Processor) (x : Wan
         let low : d.class < 25 = omega (arith, l.below, long) in
         let at : cached_in (cache_with m.poll.local.cache x.sought None) (Small d) ≡ Some l.k = ap (λ (j : ℕ). get_or (cache_with m.poll.local.cache x.sought None) j None) (index_of l.i) ∙ l.at in
         let is = cached d l.k low (subst (λ (j : Option CachedSpan). cached_in (cache_with m.poll.local.cache x.sought j) (Small d) ≡ Some l.k) (sym none.none.cached) at) in
-        let there : page_of (before.page p) ≡ page.Head is.span.h = subst (λ (q : ℕ). page_of (before.page q) ≡ page.Head is.span.h) l.head is.span.head in
+        let there : page_of (before.page p) ≡ PageWord.Head is.span.h = subst (λ (q : ℕ). page_of (before.page q) ≡ PageWord.Head is.span.h) l.head is.span.head in
         let one : h ≡ is.span.h = cc (head, there) in
-        let number : size.Small c.class ≡ size.Small d.class = sym class ∙ ap (λ (q : SpanHead). q.class) one ∙ is.span.class in
+        let number : SizeClass.Small c.class ≡ SizeClass.Small d.class = sym class ∙ ap (λ (q : SpanHead). q.class) one ∙ is.span.class in
         let ours : c ≡ d = same-by c d number (sym noscan ∙ ap (λ (q : SpanHead). q.noscan) one ∙ is.span.noscan_is) in
         let clear : cached_in (cache_with m.poll.local.cache (Small c) None) (Small c) ≡ None = cached-same m.poll.local.cache c None st.1.stands.sits.cache (subst (λ (q : SpanClass). q.class < 25) (sym ours) low) in
         let taken : cached_in (cache_with m.poll.local.cache (Small c) None) (Small c) ≡ Some l.k = subst (λ (q : SpanClass). cached_in (cache_with m.poll.local.cache (Small c) None) (Small q) ≡ Some l.k) (sym ours) (subst (λ (q : Sought). cached_in (cache_with m.poll.local.cache q None) (Small d) ≡ Some l.k) e at) in
         absurd (cc (clear, taken))
 
-    below : (p : ℕ) (h : SpanHead) → page_of (before.page p) ≡ page.Head h → p < z.layout.pages
+    below : (p : ℕ) (h : SpanHead) → page_of (before.page p) ≡ PageWord.Head h → p < z.layout.pages
     below p h head = let b = g.spans p h head in omega (arith, b.within, b.fits.some)
 
-    full : (c : SpanClass) (p : ℕ) (h : SpanHead) → f.wanted ≡ Small c → page_of (before.page p) ≡ page.Head h → h.class ≡ size.Small c.class → h.noscan ≡ c.noscan → h.owner ≡ 0 → IsFull before.alloc p h
+    full : (c : SpanClass) (p : ℕ) (h : SpanHead) → f.wanted ≡ Small c → page_of (before.page p) ≡ PageWord.Head h → h.class ≡ SizeClass.Small c.class → h.noscan ≡ c.noscan → h.owner ≡ 0 → IsFull before.alloc p h
     full c p h e head class noscan owner =
         (subst (λ (q : Sought). find.NoneLeft z true before last.find q) e none.none.none refl p h (below p h head) head (class ∙ ap (λ (q : Sought). (finder.span_for q).class) (sym e)) (noscan ∙ ap (λ (q : Sought). (finder.span_for q).noscan) (sym e)) owner).1
 
@@ -109,7 +94,7 @@ module _ (k : Known) (z : Arena) (a : ℕ) (s : Shared) (m : Processor) (x : Wan
     }
 
     -- the second time
-    pub refused : Steps z a s (searcher.asks z.layout last) (λ t. Does z a s t (searching true) None (s.words cell.Lock))
+    pub refused : Steps z a s (searcher.asks z.layout last) (λ t. Does z a s t (searching true) None (s.words Cell.Lock))
     refused = record {
       move = Refuse x.g x.d;
       may = (right.locked, right.laying, right.freeing, r.wants.runs, r.wants.register);
@@ -130,11 +115,11 @@ module _ (k : Known) (z : Arena) (a : ℕ) (s : Shared) (m : Processor) (x : Wan
       right-then = grind arith
 
       nil : View
-      nil = record before { ever = with_register before.ever x.g x.d ever.Nil }
+      nil = record before { ever = with_register before.ever x.g x.d EverValue.Nil }
 
-      then : Steady z a (view t) (set_register caching x.g x.d value.Nil)
-      then = steady_on z a nil (view t) (set_register caching x.g x.d value.Nil) (refl, refl) (holds_swept z a before g) (record { heads = λ p h held still e. e; bits = λ p i h head number few e. e; generation = refl }) (λ p e. holds-cached p ∙ e)
-          (steady_register z a before caching x.g x.d ever.Nil value.Nil r.wants.runs.of r.wants.register tt steady)
+      then : Steady z a (view t) (set_register caching x.g x.d Value.Nil)
+      then = steady_on z a nil (view t) (set_register caching x.g x.d Value.Nil) (refl, refl) (holds_swept z a before g) (record { heads = λ p h held still e. e; bits = λ p i h head number few e. e; generation = refl }) (λ p e. holds-cached p ∙ e)
+          (steady_register z a before caching x.g x.d EverValue.Nil Value.Nil r.wants.runs.of r.wants.register tt steady)
 
       op-of : Act → Op
       op-of q = q.op
@@ -143,7 +128,7 @@ module _ (k : Known) (z : Arena) (a : ℕ) (s : Shared) (m : Processor) (x : Wan
       some-is p q e = cc
 
     -- the first time
-    pub waits-then : Steps z a s (searcher.asks z.layout last) (λ t. Does z a s t (searching false) None (s.words cell.Lock))
+    pub waits-then : Steps z a s (searcher.asks z.layout last) (λ t. Does z a s t (searching false) None (s.words Cell.Lock))
     waits-then = record {
       move = LeaveLock;
       may = (right.locked, right.laying, right.freeing);

@@ -1,16 +1,8 @@
 -- What the words tell of an object that a script reaches, and what a value is to its word. Of the heap it is known what the laws of gh_heap say.
 use Rattle.std.proofs.Common.{◌≡◌, ℕ, ◌+◌, ◌-◌, ◌*◌, ◌/◌, ◌%◌, ◌^◌, ◌<◌, ◌≤◌, Bool, true, false, cond, eqb, inl, inr, refl, sym, ap, subst, ◌∙◌, arith}
-use Rattle.std.specs.Int.{bit_at}
-use Rattle.std.proofs.Math.Nat.{mod-eq_of_lt}
 use Rattle.std.proofs.lemmas.Bool.{ne_eqb}
 use Rattle.std.proofs.lemmas.Bool.Decides.{eqb_tells}
-use Rattle.gh_mutator_heap.proofs.Owning.Vocabulary.{is_pointer_by, value_of, word_of_value}
-use Rattle.gh_mutator.specs.Vocabulary.{Name, SizeClass, Value}
-use Rattle.gh_mutator_heap.specs.Vocabulary.{answer_of_value, Arena, Ever, EverValue, fits, Good, Holds, is_number, IsMade, IsReached, IsSizeClass, Means, name_of, page_of, points, Reach, size_for, slot_in, slot_of, slot_size, takes_answer, View, with_register}
-use Rattle.gh_base.specs.Packing.{bit, page_class, page_pages, slot_for}
-use Rattle.gh_model.specs.declared.EverValue.TheVariants as ever
-use Rattle.gh_heap.specs.Objects.{InSlot, Place, Placed}
-use Rattle.gh_heap.specs.Spans.{is_own_class, number_of_class, slot_count}
+use Rattle.gh_mutator_heap.proofs.Vocabulary.{answer_of_value, Arena, bit, bit_at, Ever, EverValue, fits, Good, Holds, InSlot, is_number, is_own_class, is_pointer_by, IsMade, IsReached, IsSizeClass, Means, mod-eq_of_lt, Name, name_of, number_of_class, page_class, page_of, page_pages, Place, Placed, points, Reach, size_for, SizeClass, slot_count, slot_for, slot_in, slot_of, slot_size, takes_answer, Value, value_of, View, with_register, word_of_value}
 use Rattle.gh_mutator_heap.proofs.Owning.Known.{Known}
 
 -- ---- the words of an object
@@ -98,27 +90,27 @@ module _ (laws : Known) (z : Arena) (v : View) (good : Good z v) (n : Name) (was
 
 -- a value of a register, or of a field of what is reached, is reached
 pub register_reached : (e : Ever) (g d : ℕ) → e.ended g ≡ false → (x : EverValue) → e.register g d ≡ x → IsReached e x
-register_reached e g d goes_on ever.Nil is = tt
-register_reached e g d goes_on (ever.Int i) is = tt
-register_reached e g d goes_on (ever.Ref n) is = Reach.from_register g d n goes_on is
+register_reached e g d goes_on EverValue.Nil is = tt
+register_reached e g d goes_on (EverValue.Int i) is = tt
+register_reached e g d goes_on (EverValue.Ref n) is = Reach.from_register g d n goes_on is
 
 pub global_reached : (e : Ever) (k : ℕ) (v : EverValue) → e.global k ≡ v → IsReached e v
-global_reached e k ever.Nil is = tt
-global_reached e k (ever.Int n) is = tt
-global_reached e k (ever.Ref n) is = Reach.from_global k n is
+global_reached e k EverValue.Nil is = tt
+global_reached e k (EverValue.Int n) is = tt
+global_reached e k (EverValue.Ref n) is = Reach.from_global k n is
 
 pub field_reached : (e : Ever) (n : Name) (k : ℕ) → Reach e n → (x : EverValue) → e.field n k ≡ x → IsReached e x
-field_reached e n k reach ever.Nil is = tt
-field_reached e n k reach (ever.Int i) is = tt
-field_reached e n k reach (ever.Ref r) is = Reach.from_field n k r reach is
+field_reached e n k reach EverValue.Nil is = tt
+field_reached e n k reach (EverValue.Int i) is = tt
+field_reached e n k reach (EverValue.Ref r) is = Reach.from_field n k r reach is
 
 -- ---- values
 
 -- a found word of a field means what the field holds
-found_means : (pages : ℕ) (place : Place) (made : ℕ → ℕ) (p : Bool) (x : EverValue) (word : ℕ) → ((n : Name) → x ≡ ever.Ref n → IsMade made n → place n < 1024 * pages) → Holds place made p x word → Means place made x (value_of pages p word)
-found_means pages place made p ever.Nil word within h = rw (h.0, h.1) tt
-found_means pages place made p (ever.Int i) word within h = rw (h.0) (sym h.1)
-found_means pages place made p (ever.Ref n) word within h =
+found_means : (pages : ℕ) (place : Place) (made : ℕ → ℕ) (p : Bool) (x : EverValue) (word : ℕ) → ((n : Name) → x ≡ EverValue.Ref n → IsMade made n → place n < 1024 * pages) → Holds place made p x word → Means place made x (value_of pages p word)
+found_means pages place made p EverValue.Nil word within h = rw (h.0, h.1) tt
+found_means pages place made p (EverValue.Int i) word within h = rw (h.0) (sym h.1)
+found_means pages place made p (EverValue.Ref n) word within h =
     rw (h.0, h.1)
     (let ne : eqb (place n + 1) 0 ≡ false = ne_eqb (place n + 1) 0 (λ q. omega arith) in
     let is : (place n + 1 - 1) % (1024 * pages) ≡ place n = ap (λ (y : ℕ). y % (1024 * pages)) (back (place n)) ∙ mod-eq_of_lt (within n refl h.2) in

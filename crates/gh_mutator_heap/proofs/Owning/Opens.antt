@@ -1,19 +1,12 @@
 -- Before its first step a processor knows of the heap all that it is to know.
-use Rattle.std.proofs.Common.{◌≡◌, ℕ, ◌<◌, List, [], get_or, length, None, refl, sym, ap, subst, ◌∙◌}
+use Rattle.std.proofs.Common.{◌≡◌, ℕ, ◌<◌, List, [], get_or, length, None, refl, sym, ap, subst, ◌∙◌, replicate, Option}
 use Rattle.std.proofs.lemmas.List.{get_or-replicate, length-replicate}
-use Rattle.std.specs.Prelude.{replicate, Option}
-use Rattle.gh_base.specs.Reading.{read_replicate}
-use Rattle.gh_base.specs.declared.value.Value.TheVariants as value
-use Rattle.gh_class.specs.declared.class.TheConstants.{SPAN_CLASSES}
-use Rattle.gh_model.specs.Ever.{opening_ever}
-use Rattle.gh_mutator_heap.specs.Runs.{Opens}
-use Rattle.gh_mutator.specs.Vocabulary.{CachedSpan, MOST_GOROUTINES, REGISTERS, Value}
-use Rattle.gh_mutator_heap.specs.Vocabulary.{Ever, Means}
+use Rattle.gh_mutator_heap.proofs.Vocabulary.{CachedSpan, Ever, Means, MOST_GOROUTINES, opening_ever, Opens, read_replicate, REGISTERS, SPAN_CLASSES, Value}
 use Rattle.gh_mutator_heap.proofs.Holding.Lists.{none_cached_all, none_listed}
 use Rattle.gh_mutator_heap.proofs.Owning.Steady.{goroutine_few}
 
 abbrev row : List Value
-row = replicate REGISTERS value.Nil
+row = replicate REGISTERS Value.Nil
 
 abbrev no_span : Option CachedSpan
 no_span = None
@@ -34,13 +27,13 @@ opens z a v few generation ever right = record {
         seat = refl;
         few = few;
         stacks = length-replicate MOST_GOROUTINES row;
-        registers = λ g low. ap (λ (r : List Value). length r) (stack_of g low) ∙ length-replicate REGISTERS value.Nil;
+        registers = λ g low. ap (λ (r : List Value). length r) (stack_of g low) ∙ length-replicate REGISTERS Value.Nil;
         scanned = length-replicate {A = ℕ} MOST_GOROUTINES 0;
         cache = length-replicate SPAN_CLASSES no_span;
         held = tt;
       };
-      registers = λ g d of low. subst (λ (e : Ever). Means v.place e.made (e.register g d) (get_or (get_or (replicate MOST_GOROUTINES row) g []) d value.Nil)) (sym ever)
-          (subst (λ (y : Value). Means v.place opening_ever.made (opening_ever.register g d) y) (sym (ap (λ (r : List Value). get_or r d value.Nil) (stack_of g (goroutine_few z a g of)) ∙ read_replicate REGISTERS d value.Nil)) tt);
+      registers = λ g d of low. subst (λ (e : Ever). Means v.place e.made (e.register g d) (get_or (get_or (replicate MOST_GOROUTINES row) g []) d Value.Nil)) (sym ever)
+          (subst (λ (y : Value). Means v.place opening_ever.made (opening_ever.register g d) y) (sym (ap (λ (r : List Value). get_or r d Value.Nil) (stack_of g (goroutine_few z a g of)) ∙ read_replicate REGISTERS d Value.Nil)) tt);
     };
     knows = record { generation = sym generation; caches = none_cached_all a v };
   };

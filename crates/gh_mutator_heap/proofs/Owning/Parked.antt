@@ -1,14 +1,7 @@
 -- What is known of a processor at every moment; and where it is parked at a stop, or is gone, what rights it has, and what lasts whatever is done to the words.
 use Rattle.std.proofs.Common.{◌≡◌, ℕ, Bool, false, Option, None, ◌∙◌, arith}
-use Rattle.gh_mutator_heap.proofs.Owning.Vocabulary.{FactsAt, HasAt, KnowsAt, KnowsAtAnyTime}
-use Rattle.gh_heap.specs.Rights.{Rights}
-use Rattle.gh_heap.specs.Spans.{Freeing, Laying}
-use Rattle.gh_phase.specs.Shakes.{IsParked}
-use Rattle.gh_mutator_heap.specs.PollHeap.{Has, KeepsGhosts, no_page}
+use Rattle.gh_mutator_heap.proofs.Vocabulary.{Answer, Arena, FactsAt, Freeing, Has, HasAt, IsParked, KeepsGhosts, KnowsAt, KnowsAtAnyTime, Laying, no_page, Parked, Polling, Processor, Rights, StandsAlways, Stopped, Task, View}
 use Rattle.gh_mutator.specs.ProcessorPlaces.{stage_at}
-use Rattle.gh_mutator_heap.specs.Runs.{Parked, StandsAlways, Stopped}
-use Rattle.gh_mutator.specs.Vocabulary.{Answer, Polling}
-use Rattle.gh_mutator_heap.specs.Vocabulary.{Arena, View, Processor, Task}
 use Rattle.gh_mutator_heap.proofs.Owning.Known.{Known}
 use Rattle.gh_mutator_heap.proofs.Owning.Steady.{same_counts}
 

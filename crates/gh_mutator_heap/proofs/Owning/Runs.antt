@@ -1,15 +1,6 @@
 -- The processor's laws, put together from those of its operations.
 use Rattle.std.proofs.Common.{◌≡◌, ℕ, Bool, true, false, is_some, [], ◌++◌, Option, Some, None, refl, sym, ap, subst, ◌∙◌, arith}
-use Rattle.std.specs.Option.{option_to_list}
-use Rattle.gh_mutator_heap.proofs.Owning.Vocabulary.{Act, acting, answered_at, asks, at_task, Does, FactsAt, ProcessorFacts, OwnStepAt, register_of, ShapesAreGood}
-use Rattle.gh_mutator.specs.Vocabulary.{Answer, cell_of, Op}
-use Rattle.gh_mutator_heap.specs.Vocabulary.{Arena, Good, Shared, SweepLeaves, view, Global, GlobalStage, NewStage, Processor, Register, Source, Task, Wanted}
-use Rattle.gh_base.specs.declared.operation.Op.TheVariants as op
-use Rattle.gh_base.specs.declared.value.Answer.TheVariants as answer
-use Rattle.gh_heap.specs.Moves.{landing}
-use Rattle.gh_mutator.specs.declared.new.NewStage.TheVariants as new_stage
-use Rattle.gh_mutator.specs.declared.task.Task.TheVariants as task
-use Rattle.gh_mutator.specs.Deeds.{given_at, has_point, point_of}
+use Rattle.gh_mutator_heap.proofs.Vocabulary.{Act, acting, acts, Answer, answered_at, Arena, asks, at_task, cell_of, Does, effect, FactsAt, given_at, gives, Global, GlobalStage, Good, has_point, is_busy_at, landing, NewStage, once_ended, Op, option_to_list, OwnStep, OwnStepAt, point_of, Processor, ProcessorFacts, Register, register_of, RunsByItsRights, ShapesAreGood, Shared, Source, sweep_at, Sweeping, SweepLeaves, SweepStep, Task, view, Wanted}
 use Rattle.gh_mutator.specs.Global as global
 use Rattle.gh_poll.specs.Leave as leave
 use Rattle.gh_mutator.specs.Load as load
@@ -18,11 +9,7 @@ use Rattle.gh_poll.specs.Poll as poll
 use Rattle.gh_mutator.specs.Register as register
 use Rattle.gh_mutator.specs.Store as store
 use Rattle.gh_poll.specs.Wait as wait
-use Rattle.gh_mutator.specs.Listing.{acts, gives, is_busy_at, once_ended}
-use Rattle.gh_mutator_heap.specs.Runs.{OwnStep, Rests, RunsByItsRights, SweepStep}
-use Rattle.gh_mutator.specs.Sweeping.{sweep_at}
-use Rattle.gh_sweep.specs.Listing.{Sweeping}
-use Rattle.gh_base.specs.Steps.{effect}
+use Rattle.gh_mutator_heap.specs.Runs.{Rests}
 use Rattle.gh_mutator_heap.proofs.Owning.AssistSteps.{assist_steps}
 use Rattle.gh_mutator_heap.proofs.Owning.Begins.{begins_well}
 use Rattle.gh_mutator_heap.proofs.Owning.End.{end_steps}
@@ -53,25 +40,25 @@ without-sweep : (q : Task) → OwnStepAt q → NoSweepStepAt q
 without-sweep q f z a s m pending sg is good none fine = f z a s m pending sg is good fine
 
 -- The steps of a new object.
-new-at : Known → (w : Wanted) (q : NewStage) → NoSweepStepAt (task.New (record { wanted = w; stage = q }))
-new-at k w (new_stage.Search waited q) z a s m pending sg is good none fine = subst (λ (p : Task). StepFrom z a s (at_task m p) pending) (sym is) (search-steps k z a s m pending w waited q sg good none (subst (λ (p : Task). ProcessorFacts z a (view s) (at_task m p) pending) is fine))
-new-at k w (new_stage.Wait x) z a s m pending sg is good none fine = at_its_task (task.New (record { wanted = w; stage = new_stage.Wait x })) (wait_steps k w x) z a s m pending sg is good fine
-new-at k w (new_stage.Place p) z a s m pending sg is good none fine = at_its_task (task.New (record { wanted = w; stage = new_stage.Place p })) (λ z a s m pending sg good fine. place-steps k z a s m w p pending sg good fine) z a s m pending sg is good fine
-new-at k w (new_stage.Want n) z a s m pending sg is good none fine = at_its_task (task.New (record { wanted = w; stage = new_stage.Want n })) (want-steps k w n) z a s m pending sg is good fine
-new-at k w (new_stage.Assist n x) z a s m pending sg is good none fine = at_its_task (task.New (record { wanted = w; stage = new_stage.Assist n x })) (assist_steps k w n x) z a s m pending sg is good fine
+new-at : Known → (w : Wanted) (q : NewStage) → NoSweepStepAt (Task.New (record { wanted = w; stage = q }))
+new-at k w (NewStage.Search waited q) z a s m pending sg is good none fine = subst (λ (p : Task). StepFrom z a s (at_task m p) pending) (sym is) (search-steps k z a s m pending w waited q sg good none (subst (λ (p : Task). ProcessorFacts z a (view s) (at_task m p) pending) is fine))
+new-at k w (NewStage.Wait x) z a s m pending sg is good none fine = at_its_task (Task.New (record { wanted = w; stage = NewStage.Wait x })) (wait_steps k w x) z a s m pending sg is good fine
+new-at k w (NewStage.Place p) z a s m pending sg is good none fine = at_its_task (Task.New (record { wanted = w; stage = NewStage.Place p })) (λ z a s m pending sg good fine. place-steps k z a s m w p pending sg good fine) z a s m pending sg is good fine
+new-at k w (NewStage.Want n) z a s m pending sg is good none fine = at_its_task (Task.New (record { wanted = w; stage = NewStage.Want n })) (want-steps k w n) z a s m pending sg is good fine
+new-at k w (NewStage.Assist n x) z a s m pending sg is good none fine = at_its_task (Task.New (record { wanted = w; stage = NewStage.Assist n x })) (assist_steps k w n x) z a s m pending sg is good fine
 
 steps-at : Known → (q : Task) → is_busy_at q ≡ true → NoSweepStepAt q
-steps-at k task.Idle busy = absurd (cc)
-steps-at k task.Left busy = absurd (cc)
-steps-at k (task.Load x) busy = without-sweep (task.Load x) (load_steps k x)
-steps-at k (task.Store x) busy = without-sweep (task.Store x) (store_steps k x)
-steps-at k (task.Global x) busy = without-sweep (task.Global x) (global_steps k x)
-steps-at k (task.Register x) busy = without-sweep (task.Register x) (register_steps k x)
-steps-at k (task.New x) busy = new-at k x.wanted x.stage
-steps-at k (task.Gc g x) busy = without-sweep (task.Gc g x) (gc_steps k g x)
-steps-at k task.Poll busy = without-sweep task.Poll (poll_steps k)
-steps-at k (task.End g) busy = without-sweep (task.End g) (end_steps g)
-steps-at k (task.Leave x) busy = without-sweep (task.Leave x) (leave_steps k x)
+steps-at k Task.Idle busy = absurd (cc)
+steps-at k Task.Left busy = absurd (cc)
+steps-at k (Task.Load x) busy = without-sweep (Task.Load x) (load_steps k x)
+steps-at k (Task.Store x) busy = without-sweep (Task.Store x) (store_steps k x)
+steps-at k (Task.Global x) busy = without-sweep (Task.Global x) (global_steps k x)
+steps-at k (Task.Register x) busy = without-sweep (Task.Register x) (register_steps k x)
+steps-at k (Task.New x) busy = new-at k x.wanted x.stage
+steps-at k (Task.Gc g x) busy = without-sweep (Task.Gc g x) (gc_steps k g x)
+steps-at k Task.Poll busy = without-sweep Task.Poll (poll_steps k)
+steps-at k (Task.End g) busy = without-sweep (Task.End g) (end_steps g)
+steps-at k (Task.Leave x) busy = without-sweep (Task.Leave x) (leave_steps k x)
 
 -- What is answered of operations with points: a poll and a leave have none, and nothing is pending there.
 
@@ -95,17 +82,17 @@ points-all z a s t m pending found d e = ap (λ (x : Option Act). option_to_list
 
 points-at : (z : Arena) (a : ℕ) (s t : Shared) (m : Processor) (pending : Option Answer) (found : ℕ) (q : Task) → is_busy_at q ≡ true → FactsAt z a (view s) m pending q → (d : Does z a s t (at_task m q) pending found) →
     option_to_list (answered_at z.shapes s.ever (point_of (acts z.layout (at_task m q) found))) ++ option_to_list pending ≡ option_to_list d.after ++ option_to_list (given_at q (gives z.layout (at_task m q) found))
-points-at z a s t m pending found task.Idle busy h d = absurd (cc)
-points-at z a s t m pending found task.Left busy h d = absurd (cc)
-points-at z a s t m pending found (task.Load x) busy h d = points-all z a s t (at_task m (task.Load x)) pending found d (acting-point (load.step z.layout x found).acts (load.op_of x) false refl)
-points-at z a s t m pending found (task.Store x) busy h d = points-all z a s t (at_task m (task.Store x)) pending found d (acting-point (store.step z.layout m.poll.local (register_of m x.g x.v) x found).acts (store.op_of x) false refl)
-points-at z a s t m pending found (task.Global x) busy h d = points-all z a s t (at_task m (task.Global x)) pending found d (acting-point (global.step z.layout (register_of m x.g x.r) x found).acts (global.op_of x) false (global-point x x.stage))
-points-at z a s t m pending found (task.Register x) busy h d = points-all z a s t (at_task m (task.Register x)) pending found d (acting-point (register.step (register_of m x.g (register.read_of x)) x).acts (register.op_of x) false (register-point x x.source))
-points-at z a s t m pending found (task.New x) busy h d = points-all z a s t (at_task m (task.New x)) pending found d (acting-point (new.acts_at z.layout x.stage found) (new.op_of x.wanted) (new.is_full_at x.stage) refl)
-points-at z a s t m pending found (task.Gc g x) busy h d = points-all z a s t (at_task m (task.Gc g x)) pending found d (acting-point (is_some (wait.gives z.layout (wait.waiting x m.poll) found)) (op.Gc g) false refl)
-points-at z a s t m pending found task.Poll busy h d = unpointed z s op.Poll answer.Done (poll.gives z.layout m.poll found) pending d.after refl h d.answers
-points-at z a s t m pending found (task.End g) busy h d = d.answers
-points-at z a s t m pending found (task.Leave x) busy h d = unpointed z s op.Leave answer.Done (leave.gives x found) pending d.after refl h d.answers
+points-at z a s t m pending found Task.Idle busy h d = absurd (cc)
+points-at z a s t m pending found Task.Left busy h d = absurd (cc)
+points-at z a s t m pending found (Task.Load x) busy h d = points-all z a s t (at_task m (Task.Load x)) pending found d (acting-point (load.step z.layout x found).acts (load.op_of x) false refl)
+points-at z a s t m pending found (Task.Store x) busy h d = points-all z a s t (at_task m (Task.Store x)) pending found d (acting-point (store.step z.layout m.poll.local (register_of m x.g x.v) x found).acts (store.op_of x) false refl)
+points-at z a s t m pending found (Task.Global x) busy h d = points-all z a s t (at_task m (Task.Global x)) pending found d (acting-point (global.step z.layout (register_of m x.g x.r) x found).acts (global.op_of x) false (global-point x x.stage))
+points-at z a s t m pending found (Task.Register x) busy h d = points-all z a s t (at_task m (Task.Register x)) pending found d (acting-point (register.step (register_of m x.g (register.read_of x)) x).acts (register.op_of x) false (register-point x x.source))
+points-at z a s t m pending found (Task.New x) busy h d = points-all z a s t (at_task m (Task.New x)) pending found d (acting-point (new.acts_at z.layout x.stage found) (new.op_of x.wanted) (new.is_full_at x.stage) refl)
+points-at z a s t m pending found (Task.Gc g x) busy h d = points-all z a s t (at_task m (Task.Gc g x)) pending found d (acting-point (is_some (wait.gives z.layout (wait.waiting x m.poll) found)) (Op.Gc g) false refl)
+points-at z a s t m pending found Task.Poll busy h d = unpointed z s Op.Poll Answer.Done (poll.gives z.layout m.poll found) pending d.after refl h d.answers
+points-at z a s t m pending found (Task.End g) busy h d = d.answers
+points-at z a s t m pending found (Task.Leave x) busy h d = unpointed z s Op.Leave Answer.Done (leave.gives x found) pending d.after refl h d.answers
 
 own : Known → OwnStep
 own k z a s m pending sg busy good none fine =
@@ -114,14 +101,14 @@ own k z a s m pending sg busy good none fine =
 -- a step of the sweep that it runs: only a search runs one
 does-sweep : Known → (z : Arena) (a : ℕ) (s t : Shared) (m : Processor) (pending : Option Answer) (sw : Sweeping) (q : Task) → ShapesAreGood z.shapes → Good z (view s) → Good z (view t) → ProcessorFacts z a (view s) (at_task m q) pending → sweep_at q ≡ Some sw → SweepLeaves (view s) (view t) → t.words ≡ effect s.words (asks z.layout (at_task m q)) →
     Does z a s t (at_task m q) pending (s.words (cell_of (asks z.layout (at_task m q))))
-does-sweep k z a s t m pending sw (task.New x) sg g then fine is o words = by x.stage refl fine is words where
-  by : (n : NewStage) → x.stage ≡ n → ProcessorFacts z a (view s) (at_task m (task.New (record x { stage = n }))) pending → sweep_at (task.New (record x { stage = n })) ≡ Some sw → t.words ≡ effect s.words (asks z.layout (at_task m (task.New (record x { stage = n })))) →
-      Does z a s t (at_task m (task.New (record x { stage = n }))) pending (s.words (cell_of (asks z.layout (at_task m (task.New (record x { stage = n }))))))
-  by (new_stage.Search waited y) e fine is words = sweep-steps k z a s t m pending x.wanted waited y sw sg g then fine is o words
-  by (new_stage.Wait y) e fine is words = absurd (cc)
-  by (new_stage.Place y) e fine is words = absurd (cc)
-  by (new_stage.Want n) e fine is words = absurd (cc)
-  by (new_stage.Assist n y) e fine is words = absurd (cc)
+does-sweep k z a s t m pending sw (Task.New x) sg g then fine is o words = by x.stage refl fine is words where
+  by : (n : NewStage) → x.stage ≡ n → ProcessorFacts z a (view s) (at_task m (Task.New (record x { stage = n }))) pending → sweep_at (Task.New (record x { stage = n })) ≡ Some sw → t.words ≡ effect s.words (asks z.layout (at_task m (Task.New (record x { stage = n })))) →
+      Does z a s t (at_task m (Task.New (record x { stage = n }))) pending (s.words (cell_of (asks z.layout (at_task m (Task.New (record x { stage = n }))))))
+  by (NewStage.Search waited y) e fine is words = sweep-steps k z a s t m pending x.wanted waited y sw sg g then fine is o words
+  by (NewStage.Wait y) e fine is words = absurd (cc)
+  by (NewStage.Place y) e fine is words = absurd (cc)
+  by (NewStage.Want n) e fine is words = absurd (cc)
+  by (NewStage.Assist n y) e fine is words = absurd (cc)
 does-sweep k z a s t m pending sw _ sg g then fine is o words = absurd (cc)
 
 sweep-busy : (m : Processor) (sw : Sweeping) (q : Task) → sweep_at q ≡ Some sw → is_busy_at q ≡ true

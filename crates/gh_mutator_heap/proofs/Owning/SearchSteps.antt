@@ -1,26 +1,12 @@
 -- A new object's search has found a slot, and each of its steps.
 use Rattle.std.proofs.Common.{◌≡◌, ◌≢◌, ℕ, ◌+◌, ◌*◌, ◌/◌, ◌<◌, Bool, true, false, List, length, get_or, Option, Some, None, refl, sym, ap, subst, ◌∙◌, arith}
-use Rattle.gh_mutator_heap.proofs.Owning.Vocabulary.{at_task, cache_span, cache_with, CachesAll, Does, ProcessorFacts, for_whom, lists, makes, own_span, rest, Searches, searches, ShapesAreGood}
-use Rattle.gh_mutator.specs.Vocabulary.{Answer, At, CachedSpan, cell_of, Finding, FindStage, Found, Large, Name, NoRoom, Seeking, Shape, shape_at, SizeClass, slot_words, Sought, SpanClass}
-use Rattle.gh_mutator_heap.specs.Vocabulary.{Arena, FitsShape, FitsSlot, Good, IsSought, KeepsItsOwn, KeepsObjects, moved, page_of, GoroutineRuns, Shared, size_class_of, slot_words_of, SPAN_CLASSES, SpanHead, Steps, SweepLeaves, View, view, Processor, Wanted}
-use Rattle.gh_base.specs.declared.pack.PageWord.TheVariants as page
-use Rattle.gh_class.specs.declared.class.SizeClass.TheVariants as size
-use Rattle.gh_heap.specs.Rights.{Claims}
-use Rattle.gh_base.specs.Steps.{effect}
-use Rattle.gh_heap.specs.Spans.{owned_by, owner_at, owner_in}
-use Rattle.gh_sweep.specs.Listing.{Sweeping}
+use Rattle.gh_mutator_heap.proofs.Vocabulary.{after_search, Answer, answer_search, Arena, At, at_task, cache_span, cache_with, CachedSpan, CachesAll, cell_of, Claims, Does, effect, Finding, FindStage, FitsShape, FitsSlot, for_whom, Found, Good, GoroutineRuns, IsSought, KeepsItsOwn, KeepsObjects, Large, lists, makes, moved, Name, NoRoom, own_span, owned_by, owner_at, owner_in, page_of, PageWord, placing, Processor, ProcessorFacts, refuses_behind_wait, rest, search_wants, Searches, searches, SearchStage, Seeking, Shape, shape_at, ShapesAreGood, Shared, size_class_of, SizeClass, slot_words, slot_words_of, Sought, sought_by, span_class, SPAN_CLASSES, SpanClass, SpanHead, Steps, Sweeping, SweepLeaves, View, view, Wanted}
 use Rattle.gh_alloc.specs.declared.find.After.TheVariants as After
-use Rattle.gh_alloc.specs.declared.find.FindStage.TheVariants as finder_stage
-use Rattle.gh_alloc.specs.declared.search.SearchStage.{SearchStage}
-use Rattle.gh_alloc.specs.declared.search.SearchStage.TheVariants as search_stage
 use Rattle.gh_alloc.specs.Find as finder
 use Rattle.gh_alloc.specs.FindFacts as find
 use Rattle.gh_alloc.specs.PlaceFacts as place
 use Rattle.gh_alloc.specs.Search as searcher
 use Rattle.gh_alloc.specs.SearchFacts as search
-use Rattle.gh_mutator.specs.New.{after_search, answer_search, placing, refuses_behind_wait, sought_by}
-use Rattle.gh_mutator.specs.Stays.{search_wants}
-use Rattle.gh_poll.specs.Give.{span_class}
 use Rattle.gh_mutator_heap.proofs.Holding.Known.{holds_swept, HoldsSwept}
 use Rattle.gh_mutator_heap.proofs.Holding.Lists.{index_of, listed_at}
 use Rattle.gh_mutator_heap.proofs.Owning.Known.{Known}
@@ -35,7 +21,7 @@ pub record IsFor (z : Arena) (a : ℕ) (w : View) (m : Processor) (x : Wanted) (
   pub class : claim.h.class ≡ size_class_of (shape_at z.shapes x.t).words
   pub noscan : claim.h.noscan ≡ (shape_at z.shapes x.t).noscan
   pub own : place.IsItsSpan (own_span m.poll.seat m.poll.local.view.generation x.sought) claim.p claim.h y
-  pub apart : (p : ℕ) → find.own_found x.sought y ≡ Some p → (claim.h.class ≡ size.Large) × (claim.p ≡ p)
+  pub apart : (p : ℕ) → find.own_found x.sought y ≡ Some p → (claim.h.class ≡ SizeClass.Large) × (claim.p ≡ p)
 
 abbrev pub sized : (z : Arena) (a : ℕ) (w : View) (y n l : ℕ) (c : Claims z w a y n) → n ≡ l → Claims z w a y l
 sized z a w y n l c e = record {
@@ -49,20 +35,20 @@ sized z a w y n l c e = record {
 
 -- the head of a large object's span
 abbrev head-of : Bool → (pages owner number : ℕ) → SpanHead
-head-of noscan pages owner number = record { class = size.Large; noscan = noscan; pages = pages; owner = owner; number = number }
+head-of noscan pages owner number = record { class = SizeClass.Large; noscan = noscan; pages = pages; owner = owner; number = number }
 
 module _ (z : Arena) (a : ℕ) (w : View) (m : Processor) (f : Finding) (y : ℕ) where
   is-for : (shape : Shape) (g d t : ℕ) (j : Option CachedSpan) (c : SizeClass) → shape ≡ shape_at z.shapes t → size_class_of shape.words ≡ c → WantsOf shape c → m.poll.seat ≡ a → m.poll.local.view.generation ≡ w.generation → f.wanted ≡ sought_by c shape.noscan (slot_words shape.words) →
       find.SlotIsFound z a w f (sought_by c shape.noscan (slot_words shape.words)) j y → IsFor z a w m (record { g = g; d = d; t = t; slot = slot_words shape.words; sought = sought_by c shape.noscan (slot_words shape.words) }) y
-  is-for shape g d t (Some k) (size.Small c) same e wants seat number sought found = record {
+  is-for shape g d t (Some k) (SizeClass.Small c) same e wants seat number sought found = record {
     claim = sized z a w y (slot_words_of c) (slot_words shape.words) found.claim (sym wants.1);
     class = found.class ∙ sym e ∙ ap (λ (x : Shape). size_class_of x.words) same;
     noscan = found.noscan_is ∙ ap (λ (x : Shape). x.noscan) same;
     own = tt;
     apart = λ p q. absurd (cc);
   }
-  is-for shape g d t None (size.Small c) same e wants seat number sought found = absurd found
-  is-for shape g d t j size.Large same e wants seat number sought found =
+  is-for shape g d t None (SizeClass.Small c) same e wants seat number sought found = absurd found
+  is-for shape g d t j SizeClass.Large same e wants seat number sought found =
       let one : Large (slot_words shape.words / 1024) shape.noscan ≡ Large found.pages found.noscan = sym sought ∙ found.wanted in
       let pages : slot_words shape.words / 1024 ≡ found.pages = cc in
       let noscan : shape.noscan ≡ found.noscan = cc in
@@ -78,7 +64,7 @@ module _ (z : Arena) (a : ℕ) (w : View) (m : Processor) (f : Finding) (y : ℕ
         at-some n p q = cc
 
 -- a cached span is none of a large object
-small-listed : (a : ℕ) (w : View) (cache : List (Option CachedSpan)) (p : ℕ) (h : SpanHead) → CachesAll a w cache → length cache ≡ SPAN_CLASSES → page_of (w.page p) ≡ page.Head h → h.class ≡ size.Large → lists cache p ≡ false
+small-listed : (a : ℕ) (w : View) (cache : List (Option CachedSpan)) (p : ℕ) (h : SpanHead) → CachesAll a w cache → length cache ≡ SPAN_CLASSES → page_of (w.page p) ≡ PageWord.Head h → h.class ≡ SizeClass.Large → lists cache p ≡ false
 small-listed a w cache p h all long head large = go (lists cache p) refl where
   none : lists cache p ≡ true → ⊥
   none e =
@@ -86,9 +72,9 @@ small-listed a w cache p h all long head large = go (lists cache p) refl where
       let c : SpanClass = span_class l.i in
       let low : c.class < 25 = omega (arith, l.below, long) in
       let k = all c l.k low (ap (λ (j : ℕ). get_or cache j None) (index_of l.i) ∙ l.at) in
-      let at : page_of (w.page p) ≡ page.Head k.span.h = subst (λ (q : ℕ). page_of (w.page q) ≡ page.Head k.span.h) l.head k.span.head in
+      let at : page_of (w.page p) ≡ PageWord.Head k.span.h = subst (λ (q : ℕ). page_of (w.page q) ≡ PageWord.Head k.span.h) l.head k.span.head in
       let same : h ≡ k.span.h = cc (head, at) in
-      let class : size.Large ≡ size.Small c.class = sym large ∙ ap (λ (x : SpanHead). x.class) same ∙ k.span.class in
+      let class : SizeClass.Large ≡ SizeClass.Small c.class = sym large ∙ ap (λ (x : SpanHead). x.class) same ∙ k.span.class in
       absurd (cc)
 
   go : (b : Bool) → lists cache p ≡ b → lists cache p ≡ false
@@ -123,7 +109,7 @@ module _ (k : Known) (z : Arena) (a : ℕ) (s : Shared) (m : Processor) (x : Wan
       register = r.wants.register;
       of = r.wants.runs.of;
       span = refl;
-      apart = λ p e. small-listed a (view t) caching.poll.local.cache p here.claim.h steady.1.knows.caches steady.1.stands.sits.cache (subst (λ (q : ℕ). page_of ((view t).page q) ≡ page.Head here.claim.h) (here.apart p e).1 here.claim.slot.span.head) (here.apart p e).0;
+      apart = λ p e. small-listed a (view t) caching.poll.local.cache p here.claim.h steady.1.knows.caches steady.1.stands.sits.cache (subst (λ (q : ℕ). page_of ((view t).page q) ≡ PageWord.Head here.claim.h) (here.apart p e).1 here.claim.slot.span.head) (here.apart p e).0;
       named = refl;
     };
   } where
@@ -206,7 +192,7 @@ module _ (k : Known) (z : Arena) (a : ℕ) (s : Shared) (m : Processor) (x : Wan
   -- what a sweep leaves of the spans that the seat holds
   keeps_own : (t : Shared) → Good z now → SweepLeaves now (view t) → KeepsItsOwn a now (view t)
   keeps_own t g o = record { heads = λ p h held still head. o.owned p h (owned p h held head) head; bits = o.leaves.bits; generation = o.leaves.generation } where
-    owned : (p : ℕ) (h : SpanHead) → now.holds a p ≡ true → page_of (now.page p) ≡ page.Head h → h.owner ≢ 0
+    owned : (p : ℕ) (h : SpanHead) → now.holds a p ≡ true → page_of (now.page p) ≡ PageWord.Head h → h.owner ≢ 0
     owned p h held head none =
         let named : owner_at now.page p ≡ a + 1 = (g.owners a p).1 held in
         let is : owner_at now.page p ≡ h.owner = ap owner_in head in
@@ -225,7 +211,7 @@ module _ (k : Known) (z : Arena) (a : ℕ) (s : Shared) (m : Processor) (x : Wan
   module _ (q : Seeking) (sg : ShapesAreGood z.shapes) (g : Good z (view s)) (rests : searcher.sweep_in q ≡ None) (st : Steady z a (view s) m) where
     -- the search at its last step
     abbrev last : Seeking
-    last = record { find = finder.at_stage q.find (finder_stage.Unlock (After.End NoRoom)); stage = search_stage.Second }
+    last = record { find = finder.at_stage q.find (FindStage.Unlock (After.End NoRoom)); stage = SearchStage.Second }
 
     ends-at : (again : Bool) → search.Has a (view s) (rest m x) last → Searches z a (view s) m x last None → search.FindsNone z (view s) last.find → Own again last
     ends-at true has r none = refused k z a s m x q.find g st has r none
@@ -240,7 +226,7 @@ module _ (k : Known) (z : Arena) (a : ℕ) (s : Shared) (m : Processor) (x : Wan
       go false e = steps k z a s m x q waited sg g rests st has r e
       go true e =
           let no = k.search.none z a (view s) (rest m x) q r.facts e in
-          let is : q ≡ last = at-last (finder_stage.Unlock (After.End NoRoom)) search_stage.Second no.unlocks no.stage in
+          let is : q ≡ last = at-last (FindStage.Unlock (After.End NoRoom)) SearchStage.Second no.unlocks no.stage in
           subst (Own waited) (sym is) (ends-at waited (subst (λ (y : Seeking). search.Has a (view s) (rest m x) y) is has) (subst (λ (y : Seeking). Searches z a (view s) m x y None) is r) (subst (λ (y : Seeking). search.FindsNone z (view s) y.find) is no.none))
 
 pub search-steps : Known → (z : Arena) (a : ℕ) (s : Shared) (m : Processor) (pending : Option Answer) (x : Wanted) (waited : Bool) (q : Seeking) → ShapesAreGood z.shapes → Good z (view s) → searcher.sweep_in q ≡ None → ProcessorFacts z a (view s) (at_task m (searches x waited q)) pending →

@@ -1,16 +1,10 @@
 -- The search for a new object's slot: how it begins, what a step of it comes to where it goes on, and where it ends with no room. The search is known by its law alone.
 use Rattle.std.proofs.Common.{◌≡◌, ◌≢◌, ℕ, ◌<◌, Bool, true, false, cond, eqb, List, length, Option, Some, None, refl, sym, ap, subst, ◌∙◌, arith}
-use Rattle.std.proofs.lemmas.Bool.{eqb-true, eqb-false}
-use Rattle.gh_mutator_heap.proofs.Owning.Vocabulary.{at_task, cache_span, cache_with, cached_for, cached_in, CachesAll, ProcessorFacts, lists, rest, Rests, Searches, searches, Wants}
-use Rattle.gh_mutator.specs.Vocabulary.{CachedSpan, cell_of, Finding, Large, Seeking, Small, Sought, span_index, SpanClass}
-use Rattle.gh_mutator_heap.specs.Vocabulary.{Arena, IsSought, KeepsItsOwn, KeepsObjects, MOST_STATEMENTS, Shared, SPAN_CLASSES, View, view, Processor, Wanted}
-use Rattle.gh_model.specs.Ever.{Ever}
-use Rattle.gh_alloc.specs.declared.search.SearchStage.{SearchStage}
+use Rattle.std.proofs.lemmas.Bool.{eqb-true}
+use Rattle.gh_mutator_heap.proofs.Vocabulary.{Arena, at_task, cache_span, cache_with, cached_for, cached_in, CachedSpan, CachesAll, cell_of, eqb-false, Ever, Finding, IsSought, KeepsItsOwn, KeepsObjects, Large, lists, MOST_STATEMENTS, Processor, ProcessorFacts, rest, Rests, search_wants, Searches, searches, SearchStage, Seeking, seeking, seeks_now, Shared, Small, Sought, SPAN_CLASSES, span_index, SpanClass, View, view, Wanted, Wants}
 use Rattle.gh_alloc.specs.FindFacts as find
 use Rattle.gh_alloc.specs.Search as searcher
 use Rattle.gh_alloc.specs.SearchFacts as search
-use Rattle.gh_mutator.specs.New.{seeking}
-use Rattle.gh_mutator.specs.Stays.{search_wants, seeks_now}
 use Rattle.gh_mutator_heap.proofs.Holding.Known.{cached_kept, HoldsSwept, stands_kept}
 use Rattle.gh_mutator_heap.proofs.Holding.Lists.{lists_it}
 use Rattle.gh_mutator_heap.proofs.Owning.Cache.{cached-other, cached-same, cached-then, listed-once, lists-cached, same-class}

@@ -1,19 +1,10 @@
 -- What the steps of statements come to while others change the heap: one goes on, one is a fault, by one a register takes what was found.
-use Rattle.std.proofs.Common.{◌≡◌, ℕ, ◌-◌, ◌<◌, Bool, true, false, cond, eqb, List, [], ◌∷◌, ◌++◌, Option, Some, None, refl, sym, ap, subst, ◌∙◌, arith}
-use Rattle.std.specs.Prelude.{◌&&◌}
-use Rattle.std.specs.Option.{option_to_list}
+use Rattle.std.proofs.Common.{◌≡◌, ℕ, ◌-◌, ◌<◌, Bool, true, false, cond, eqb, List, [], ◌∷◌, ◌++◌, Option, Some, None, refl, sym, ap, subst, ◌∙◌, arith, ◌&&◌}
 use Rattle.std.proofs.lemmas.Bool.{eq-eqb}
-use Rattle.gh_mutator_heap.proofs.Owning.Vocabulary.{Act, acted, acting, answered, answered_at, asks, at_task, Does, ends, ProcessorFacts, follows, goes_on, lists, OwnStepAt, set_register, ShapesAreGood, Takes}
-use Rattle.gh_mutator.specs.Vocabulary.{Answer, cell_of, IsOf, Op, REGISTERS, Value}
-use Rattle.gh_mutator_heap.specs.Vocabulary.{answer_of, Arena, ever_after, EverValue, Good, Means, moved, Right, GoroutineRuns, Shared, Steps, answer_of_value, View, view, with_register, Idle, Processor, Step, Task}
-use Rattle.gh_base.specs.declared.cell.Ask.TheVariants as ask
-use Rattle.gh_base.specs.declared.cell.Cell.{Cell}
-use Rattle.gh_base.specs.declared.value.Answer.TheVariants as answer
-use Rattle.gh_base.specs.declared.value.Value.TheVariants as value
-use Rattle.gh_model.specs.declared.EverValue.TheVariants as ever
+use Rattle.gh_mutator_heap.proofs.Vocabulary.{Act, acted, acting, Answer, answer_of, answer_of_value, answered, answered_at, applied, Arena, Ask, asks, at_task, Cell, cell_of, Does, ends, ever_after, EverValue, follows, goes_on, Good, GoroutineRuns, Idle, IsOf, lists, Means, moved, Op, option_to_list, OwnStepAt, Processor, ProcessorFacts, REGISTERS, Right, set_register, ShapesAreGood, Shared, Step, Steps, Task, Value, value_told, View, view, with_register}
+use Rattle.gh_mutator_heap.proofs.Owning.Vocabulary.{Takes}
 use Rattle.gh_heap.specs.Moves as moves
-use Rattle.gh_mutator.specs.Fields.{takes, value_told}
-use Rattle.gh_mutator.specs.Listing.{applied}
+use Rattle.gh_mutator.specs.Fields.{takes}
 use Rattle.gh_mutator_heap.proofs.Owning.Known.{Known}
 use Rattle.gh_mutator_heap.proofs.Owning.Steady.{HasCached, rights_with, Steady, steady_register}
 
@@ -76,7 +67,7 @@ module _ (S : Type 0) (into : S → Task) (z : Arena) (a : ℕ) (s : Shared) (m 
     Names = (at : ℕ) (v : View) (x : Processor) (p : Option Answer) → Steady z a v x → HasCached a v x → Takes z a v g d at p → ProcessorFacts z a v (at_task x (into (naming at))) p
 
     abbrev pending_of : EverValue → Option Answer
-    pending_of (ever.Ref n) = Some (answer.Ref n)
+    pending_of (EverValue.Ref n) = Some (Answer.Ref n)
     pending_of _ = None
 
     tells : (x : EverValue) (w : Value) → Means s.place s.ever.made x w → answer_of_value x ∷ [] ≡ option_to_list (pending_of x) ++ option_to_list (answered (value_told naming w))
@@ -90,25 +81,25 @@ module _ (S : Type 0) (into : S → Task) (z : Arena) (a : ℕ) (s : Shared) (m 
       here x = rw (eq-eqb g g refl, eq-eqb d d refl) refl
 
       fine_then : (x : EverValue) (w : Value) → Means s.place s.ever.made x w → Steady z a (then x) (set_register m g d w) → Right a (then x) false (lists m.poll.local.cache) None → ProcessorFacts z a (then x) (at_task (set_register m g d w) (follows into (value_told naming w))) (pending_of x)
-      fine_then ever.Nil value.Nil h st ri = idle z a (then ever.Nil) (set_register m g d value.Nil) st ri
-      fine_then (ever.Int i) (value.Int j) h st ri = idle z a (then (ever.Int i)) (set_register m g d (value.Int j)) st ri
-      fine_then (ever.Ref n) (value.Ref r) h st ri = names (r - 1) (then (ever.Ref n)) (set_register m g d (value.Ref r)) (Some (answer.Ref n)) st ri (record {
+      fine_then EverValue.Nil Value.Nil h st ri = idle z a (then EverValue.Nil) (set_register m g d Value.Nil) st ri
+      fine_then (EverValue.Int i) (Value.Int j) h st ri = idle z a (then (EverValue.Int i)) (set_register m g d (Value.Int j)) st ri
+      fine_then (EverValue.Ref n) (Value.Ref r) h st ri = names (r - 1) (then (EverValue.Ref n)) (set_register m g d (Value.Ref r)) (Some (Answer.Ref n)) st ri (record {
         n = n;
-        through = record { runs = record { of = runs.of; goes_on = runs.goes_on }; register = few; names = here (ever.Ref n); made = h.1; here = let is = h.0 in omega arith };
+        through = record { runs = record { of = runs.of; goes_on = runs.goes_on }; register = few; names = here (EverValue.Ref n); made = h.1; here = let is = h.0 in omega arith };
         answers = refl;
       })
-      fine_then ever.Nil (value.Int j) h st ri = absurd h
-      fine_then ever.Nil (value.Ref r) h st ri = absurd h
-      fine_then (ever.Int i) value.Nil h st ri = absurd h
-      fine_then (ever.Int i) (value.Ref r) h st ri = absurd h
-      fine_then (ever.Ref n) value.Nil h st ri = absurd h
-      fine_then (ever.Ref n) (value.Int j) h st ri = absurd h
+      fine_then EverValue.Nil (Value.Int j) h st ri = absurd h
+      fine_then EverValue.Nil (Value.Ref r) h st ri = absurd h
+      fine_then (EverValue.Int i) Value.Nil h st ri = absurd h
+      fine_then (EverValue.Int i) (Value.Ref r) h st ri = absurd h
+      fine_then (EverValue.Ref n) Value.Nil h st ri = absurd h
+      fine_then (EverValue.Ref n) (Value.Int j) h st ri = absurd h
 
       pub took : Known → (c : Cell) (x : EverValue) (w : Value) → Means s.place s.ever.made x w → answer_of z.shapes s.ever o ≡ answer_of_value x → ever_after z.shapes s.ever o (answer_of_value x) ≡ with_register s.ever g d x →
-          Comes S into z a s (moved z a s (moves.Takes (ask.Load c) g d x)) m g d o None (takes naming w)
+          Comes S into z a s (moved z a s (moves.Takes (Ask.Load c) g d x)) m g d o None (takes naming w)
       took laws c x w means is goes = record {
         after = pending_of x;
-        fine = fine_then x w means (steady_register z a (view s) m g d x w runs.of few means steady) ((laws.follow z a s false (lists m.poll.local.cache) None right).takes (ask.Load c) g d x);
+        fine = fine_then x w means (steady_register z a (view s) m g d x w runs.of few means steady) ((laws.follow z a s false (lists m.poll.local.cache) None right).takes (Ask.Load c) g d x);
         ever = sym (ap (λ (y : Answer). ever_after z.shapes s.ever o y) is ∙ goes);
         answers = ap (λ (y : Answer). y ∷ []) is ∙ tells x w means;
       }

@@ -1,19 +1,9 @@
 -- What is known of a processor while it runs a statement, whatever that is at, and what is left of it where one thing changes: its registers, its notes of scans, the spans that it has cached, or the heap that never frees.
-use Rattle.std.proofs.Common.{◌≡◌, ◌≢◌, ℕ, ◌<◌, Bool, true, false, cond, eqb, List, [], length, get_or, Option, None, refl, sym, ap, subst, ◌∙◌, arith, get_or-set_same, get_or-set_other, length-set}
-use Rattle.std.specs.Prelude.{◌&&◌}
-use Rattle.std.proofs.Math.ListN.{set}
-use Rattle.std.proofs.lemmas.Bool.{eqb-true, eqb-false, eq-eqb}
-use Rattle.gh_base.specs.declared.value.Value.TheVariants as value
-use Rattle.gh_base.specs.Reading.{read_after_set}
-use Rattle.gh_heap.specs.Rights.{Rights}
-use Rattle.gh_heap.specs.Spans.{Freeing, Laying}
-use Rattle.gh_alloc.specs.FindFacts.{IsCached}
-use Rattle.gh_poll.specs.Local.{register_in_stacks, stacks_with, with_cached, with_register_value}
-use Rattle.gh_mutator.specs.Vocabulary.{CachedSpan, IsOf, Large, MOST_GOROUTINES, Polling, REGISTERS, Small, Sought, SpanClass, Value}
-use Rattle.gh_mutator_heap.specs.Vocabulary.{Arena, Ever, EverValue, KeepsItsOwn, KeepsObjects, Means, Right, Row, GoroutineRuns, View, with_register as ever_with, Processor}
+use Rattle.std.proofs.Common.{◌≡◌, ◌≢◌, ℕ, ◌<◌, Bool, true, false, cond, eqb, List, [], length, get_or, Option, None, refl, sym, ap, subst, ◌∙◌, arith, get_or-set_same, get_or-set_other, length-set, ◌&&◌}
+use Rattle.std.proofs.lemmas.Bool.{eqb-true, eq-eqb}
+use Rattle.gh_mutator_heap.proofs.Vocabulary.{Arena, cache_with, CachedSpan, CachesAll, eqb-false, Ever, ever_with, EverValue, Freeing, GoroutineRuns, IsCached, IsOf, KeepsItsOwn, KeepsObjects, KnowsCounts, KnowsSpans, Large, Laying, lists, Means, MOST_GOROUTINES, Polling, PollRegistersFit, Processor, read_after_set, register_at, register_in_stacks, REGISTERS, Rests, Right, Rights, Row, SeatFacts, set, set_register, Small, Sought, SpanClass, stacks_with, Value, View, with_cached, with_register_value}
 use Rattle.gh_mutator_heap.proofs.Holding.Known.{cached_kept, HoldsSwept, stands_kept}
 use Rattle.gh_mutator_heap.proofs.Holding.Lists.{lists_it}
-use Rattle.gh_mutator_heap.proofs.Owning.Vocabulary.{cache_with, CachesAll, KnowsCounts, KnowsSpans, lists, PollRegistersFit, register_at, Rests, set_register, SeatFacts}
 
 abbrev pub Steady : Arena → (a : ℕ) → View → Processor → Type 0
 Steady z a v m = KnowsCounts z a v m.made × Rests z a v m.poll
@@ -32,10 +22,10 @@ goroutine_few z a g of = omega (arith, of.0, z.layout.limits.goroutines_fit.1)
 
 module _ (stacks : List (List Value)) (g d : ℕ) (y : Value) (few : g < length stacks) where
   same_register : d < length (get_or stacks g []) → register_in_stacks (stacks_with stacks g d y) g d ≡ y
-  same_register low = ap (λ (r : List Value). get_or r d value.Nil) (get_or-set_same stacks g (set (get_or stacks g []) d y) [] few) ∙ get_or-set_same (get_or stacks g []) d y value.Nil low
+  same_register low = ap (λ (r : List Value). get_or r d Value.Nil) (get_or-set_same stacks g (set (get_or stacks g []) d y) [] few) ∙ get_or-set_same (get_or stacks g []) d y Value.Nil low
 
   beside : (c : ℕ) → c ≢ d → register_in_stacks (stacks_with stacks g d y) g c ≡ register_in_stacks stacks g c
-  beside c ne = ap (λ (r : List Value). get_or r c value.Nil) (get_or-set_same stacks g (set (get_or stacks g []) d y) [] few) ∙ get_or-set_other (get_or stacks g []) d c y value.Nil ne
+  beside c ne = ap (λ (r : List Value). get_or r c Value.Nil) (get_or-set_same stacks g (set (get_or stacks g []) d y) [] few) ∙ get_or-set_other (get_or stacks g []) d c y Value.Nil ne
 
   other_register : (h c : ℕ) → ((h ≡ g) → c ≢ d) → register_in_stacks (stacks_with stacks g d y) h c ≡ register_in_stacks stacks h c
   other_register h c ne = go (eqb h g) refl where
@@ -43,7 +33,7 @@ module _ (stacks : List (List Value)) (g d : ℕ) (y : Value) (few : g < length 
     go true e =
         let same : h ≡ g = eqb-true h g e in
         subst (λ (n : ℕ). register_in_stacks (stacks_with stacks g d y) n c ≡ register_in_stacks stacks n c) (sym same) (beside c (ne same))
-    go false e = ap (λ (r : List Value). get_or r c value.Nil) (get_or-set_other stacks g h (set (get_or stacks g []) d y) [] (eqb-false h g e))
+    go false e = ap (λ (r : List Value). get_or r c Value.Nil) (get_or-set_other stacks g h (set (get_or stacks g []) d y) [] (eqb-false h g e))
 
 pub sits_register : (z : Arena) (a : ℕ) (p : Polling) (g d : ℕ) (y : Value) → SeatFacts z a p → SeatFacts z a (with_register_value p g d y)
 sits_register z a p g d y s = record {

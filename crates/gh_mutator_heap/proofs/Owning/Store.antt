@@ -1,32 +1,10 @@
 -- Own steps of a store while others change the heap. At its point the field takes what its register holds.
-use Rattle.std.proofs.Common.{◌≡◌, ℕ, ◌+◌, ◌*◌, ◌%◌, ◌<◌, ◌⊎◌, Bool, true, false, not, cond, ltb, [], ◌∷◌, Option, Some, None, inl, inr, refl, sym, ap, subst, ◌∙◌, arith}
-use Rattle.std.specs.Prelude.{◌&&◌}
-use Rattle.std.proofs.Math.Nat.{mod-lt}
+use Rattle.std.proofs.Common.{◌≡◌, ℕ, ◌+◌, ◌*◌, ◌%◌, ◌<◌, ◌⊎◌, Bool, true, false, not, cond, ltb, [], ◌∷◌, Option, Some, None, inl, inr, refl, sym, ap, subst, ◌∙◌, arith, ◌&&◌}
 use Rattle.std.proofs.lemmas.Bool.{ltb-true, lt-ltb}
-use Rattle.gh_mutator_heap.proofs.Owning.Vocabulary.{StoreFacts, asks, at_task, Does, ends, ProcessorFacts, goes_on, has_field, is_pointer_by, IsPlain, lists, OwnStepAt, register_of, Stores, Through, word_of_value}
-use Rattle.gh_mutator.specs.Vocabulary.{Ask, Answer, cell_of, Name, Value}
-use Rattle.gh_mutator_heap.specs.Vocabulary.{answer_of, Arena, Ever, ever_after, EverValue, Fault, fits, Good, Means, moved, page_of, points, Quiet, Reach, Shared, size_for, slot_in, Steps, View, view, Processor, Step, Store, StoreStage, Task}
-use Rattle.gh_base.specs.declared.cell.Ask.TheVariants as ask
-use Rattle.gh_base.specs.declared.cell.Cell.TheVariants as cell
-use Rattle.gh_base.specs.declared.held.Held.{Held}
-use Rattle.gh_barrier.specs.declared.pointer_cell.PointerCell.{PointerCell}
-use Rattle.gh_barrier.specs.Listing.{Writing as PointerWrite}
+use Rattle.gh_mutator_heap.proofs.Vocabulary.{Answer, answer_of, Arena, Ask, asks, at_task, Cell, cell_of, Does, ends, Ever, ever_after, EverValue, Fault, field_cell, fits, goes_on, Good, has_field, Held, held_then, is_mark, is_number_value, is_pointer_by, IsPlain, keeping, kinds_differ, lists, Means, mod-lt, moved, Name, OwnStepAt, page_of, Place, pointer_cell_at, PointerCell, PointerWrite, points, Processor, ProcessorFacts, put, Quiet, Reach, register_of, Shared, size_for, slot_in, Step, Steps, Store, store_answer, StoreFacts, Stores, stores, stores_value, StoreStage, Task, Through, Value, View, view, with_field, word_of_value, Write, WritesIt, written}
 use Rattle.gh_barrier.specs.Listing as write
-use Rattle.gh_base.specs.declared.value.Answer.TheVariants as answer
-use Rattle.gh_base.specs.declared.value.Fault.TheVariants as fault
-use Rattle.gh_base.specs.Cells.{put}
-use Rattle.gh_model.specs.declared.EverValue.TheVariants as ever
-use Rattle.gh_model.specs.Ever.{store_answer, stores_value, with_field}
-use Rattle.gh_heap.specs.Moves.{Write}
-use Rattle.gh_heap.specs.Objects.{Place}
 use Rattle.gh_mutator.specs.declared.store.StoreStage.TheVariants.{Page, Bits, Field, Writing, NilBase}
-use Rattle.gh_mutator.specs.declared.task.Task.TheVariants as task
-use Rattle.gh_poll.specs.Barrier.{held_then, WritesIt, written}
-use Rattle.gh_poll.specs.Registers.{is_number_value}
-use Rattle.gh_mutator.specs.Fields.{field_cell, kinds_differ}
-use Rattle.gh_poll.specs.Local.{is_mark}
-use Rattle.gh_mutator.specs.Processor.{keeping}
-use Rattle.gh_mutator.specs.Store.{after_write, at_stage, held_behind, op_of, pointer_cell_at, step, stores}
+use Rattle.gh_mutator.specs.Store.{after_write, at_stage, held_behind, op_of, step}
 use Rattle.gh_mutator_heap.proofs.Owning.Barrier.{begins_so, goes_so, held_so, IsBefore, IsLast, names_fit, steady_held, step_is, word_written}
 use Rattle.gh_mutator_heap.proofs.Owning.Known.{Known}
 use Rattle.gh_mutator_heap.proofs.Owning.Objects.{bit_found, register_reached, size_found, word_holds, word_is}
@@ -57,18 +35,18 @@ module _ (laws : Known) (z : Arena) (a : ℕ) (s : Shared) (m : Processor) (x : 
 
   -- what it is answered
 
-  store_past : (v : EverValue) (n : Name) → v ≡ ever.Ref n → ltb x.k (size n) ≡ false → store_answer z.shapes e v x.k stored ≡ answer.Fault fault.Field
+  store_past : (v : EverValue) (n : Name) → v ≡ EverValue.Ref n → ltb x.k (size n) ≡ false → store_answer z.shapes e v x.k stored ≡ Answer.Fault Fault.Field
   store_past v n is over = rw (is, over) refl
 
-  store_kind : (v w : EverValue) (n : Name) (b : Bool) → v ≡ ever.Ref n → x.k < size n → fits (kind n) w ≡ b → store_answer z.shapes e v x.k w ≡ cond b answer.Done (answer.Fault fault.Kind)
+  store_kind : (v w : EverValue) (n : Name) (b : Bool) → v ≡ EverValue.Ref n → x.k < size n → fits (kind n) w ≡ b → store_answer z.shapes e v x.k w ≡ cond b Answer.Done (Answer.Fault Fault.Kind)
   store_kind v w n b is few f = rw (is, lt-ltb x.k (size n) few, f) refl
 
-  plain_store : (v : EverValue) → IsPlain v → store_answer z.shapes e v x.k stored ≡ answer.Fault fault.NilBase
+  plain_store : (v : EverValue) → IsPlain v → store_answer z.shapes e v x.k stored ≡ Answer.Fault Fault.NilBase
   plain_store v h = grind arith
 
   -- the processor at a stage of it, and the word that its step finds
   abbrev here : StoreStage → Processor
-  here q = at_task m (task.Store (at_stage x q))
+  here q = at_task m (Task.Store (at_stage x q))
 
   abbrev found : StoreStage → ℕ
   found q = s.words (cell_of (asks z.layout (here q)))
@@ -78,10 +56,10 @@ module _ (laws : Known) (z : Arena) (a : ℕ) (s : Shared) (m : Processor) (x : 
 
   -- with the buffer that it holds behind the step
   abbrev ToWith : Option Held → Shared → Option Answer → Step Store → Type 0
-  ToWith h t pending next = Comes Store task.Store z a s t (keeping m h) x.g x.v (op_of x) pending next
+  ToWith h t pending next = Comes Store Task.Store z a s t (keeping m h) x.g x.v (op_of x) pending next
 
   abbrev To : Shared → Option Answer → Step Store → Type 0
-  To t pending next = Comes Store task.Store z a s t m x.g x.v (op_of x) pending next
+  To t pending next = Comes Store Task.Store z a s t m x.g x.v (op_of x) pending next
 
   does : (q : StoreStage) (pending : Option Answer) (t : Shared) → ToWith (held_behind z.layout m.poll.local.held q (found q)) t pending (step z.layout m.poll.local held (at_stage x q) (found q)) → Does z a s t (here q) pending (found q)
   does q pending t c = record { after = c.after; fine = c.fine; ever = c.ever; answers = c.answers; full = λ y is full. absurd (not_full (step z.layout m.poll.local held (at_stage x q) (found q)).acts (op_of x) y is full); counts = tt }
@@ -99,13 +77,13 @@ module _ (laws : Known) (z : Arena) (a : ℕ) (s : Shared) (m : Processor) (x : 
     abbrev stores_at : (p q : StoreStage) → Stores z a (view s) (at_stage x p) None → Stores z a (view s) (at_stage x q) None
     stores_at p q l = record { n = l.n; through = l.through; register = l.register; unanswered = l.unanswered }
 
-    fault_at : (f : Fault) → answer_of z.shapes e (op_of x) ≡ answer.Fault f → To s None (ends (answer.Fault f))
+    fault_at : (f : Fault) → answer_of z.shapes e (op_of x) ≡ Answer.Fault f → To s None (ends (Answer.Fault f))
     fault_at f is = grind arith
 
-    page_by : (l : Stores z a (view s) (at_stage x Page) None) → slot_in (page_of (found Page)) ≡ size l.n → (b : Bool) → has_field x.k (found Page) ≡ b → To s None (cond b (goes_on (at_stage x Bits)) (ends (answer.Fault fault.Field)))
-    page_by l sized true test = further Store task.Store z a s m x.g x.v (op_of x) steady right (at_stage x Bits)
+    page_by : (l : Stores z a (view s) (at_stage x Page) None) → slot_in (page_of (found Page)) ≡ size l.n → (b : Bool) → has_field x.k (found Page) ≡ b → To s None (cond b (goes_on (at_stage x Bits)) (ends (Answer.Fault Fault.Field)))
+    page_by l sized true test = further Store Task.Store z a s m x.g x.v (op_of x) steady right (at_stage x Bits)
         (record { counts = steady.0; knows = steady.1; right = right; task = (stores_at Page Bits l, subst (λ (n : ℕ). x.k < n) sized (ltb-true _ _ test)) })
-    page_by l sized false test = fault_at fault.Field (store_past (e.register x.g x.b) l.n l.through.names (subst (λ (n : ℕ). ltb x.k n ≡ false) sized test))
+    page_by l sized false test = fault_at Fault.Field (store_past (e.register x.g x.b) l.n l.through.names (subst (λ (n : ℕ). ltb x.k n ≡ false) sized test))
 
     page : (l : Stores z a (view s) (at_stage x Page) None) → Own Page None
     page l = record {
@@ -128,11 +106,11 @@ module _ (laws : Known) (z : Arena) (a : ℕ) (s : Shared) (m : Processor) (x : 
     kind_by l few fit true false same = (stores_at Bits Field l, few, fit)
     kind_by l few fit false marking same = (stores_at Bits Field l, few, fit)
 
-    bits_by : (l : Stores z a (view s) (at_stage x Bits) None) → x.k < size l.n → (b : Bool) → fits (kind l.n) stored ≡ b → (p differ : Bool) → kinds_differ p held ≡ differ → differ ≡ not b → To s None (cond differ (ends (answer.Fault fault.Kind)) (goes_on (at_stage x (stores z.layout m.poll.local held x p))))
+    bits_by : (l : Stores z a (view s) (at_stage x Bits) None) → x.k < size l.n → (b : Bool) → fits (kind l.n) stored ≡ b → (p differ : Bool) → kinds_differ p held ≡ differ → differ ≡ not b → To s None (cond differ (ends (Answer.Fault Fault.Kind)) (goes_on (at_stage x (stores z.layout m.poll.local held x p))))
     bits_by l few true fit p true d is = absurd cc
-    bits_by l few true fit p false d is = further Store task.Store z a s m x.g x.v (op_of x) steady right (at_stage x (stores z.layout m.poll.local held x p))
+    bits_by l few true fit p false d is = further Store Task.Store z a s m x.g x.v (op_of x) steady right (at_stage x (stores z.layout m.poll.local held x p))
         (record { counts = steady.0; knows = steady.1; right = right; task = kind_by l few fit p (is_mark m.poll.local.view.phase) d })
-    bits_by l few false fit p true d is = fault_at fault.Kind (store_kind (e.register x.g x.b) stored l.n false l.through.names few fit)
+    bits_by l few false fit p true d is = fault_at Fault.Kind (store_kind (e.register x.g x.b) stored l.n false l.through.names few fit)
     bits_by l few false fit p false d is = absurd cc
 
     bits : (l : Stores z a (view s) (at_stage x Bits) None) → x.k < size l.n → Own Bits None
@@ -150,13 +128,13 @@ module _ (laws : Known) (z : Arena) (a : ℕ) (s : Shared) (m : Processor) (x : 
       t : Shared
       t = moved z a s (Write l.n x.k stored (word_of_value held))
 
-      is : answer_of z.shapes e (op_of x) ≡ answer.Done
+      is : answer_of z.shapes e (op_of x) ≡ Answer.Done
       is = store_kind (e.register x.g x.b) stored l.n true l.through.names few fit
 
       next : ever_after z.shapes e (op_of x) (answer_of z.shapes e (op_of x)) ≡ with_field e l.n x.k stored
-      next = ap (λ (y : Answer). ever_after z.shapes e (op_of x) y) is ∙ ap (λ (y : EverValue). stores_value e y x.k stored answer.Done) l.through.names
+      next = ap (λ (y : Answer). ever_after z.shapes e (op_of x) y) is ∙ ap (λ (y : EverValue). stores_value e y x.k stored Answer.Done) l.through.names
 
-      lands : (h : Option Held) → Steady z a (view s) (keeping m h) → ToWith h t None (ends answer.Done)
+      lands : (h : Option Held) → Steady z a (view s) (keeping m h) → ToWith h t None (ends Answer.Done)
       unfolding t
       lands h st = record {
         after = None;
@@ -177,7 +155,7 @@ module _ (laws : Known) (z : Arena) (a : ℕ) (s : Shared) (m : Processor) (x : 
           value_reached = register_reached e x.g x.v l.through.runs.goes_on stored refl;
           holds = word_holds s.place e.made (kind l.n) stored held (means l.n l.through q l) fit;
         };
-        words_are = ap (λ (i : ℕ). put s.words (cell.Field i) (word_of_value held)) (sym (word_is laws z (view s) good l.n l.through.made (reach l.n l.through) x.at l.through.here x.k few));
+        words_are = ap (λ (i : ℕ). put s.words (Cell.Field i) (word_of_value held)) (sym (word_is laws z (view s) good l.n l.through.made (reach l.n l.through) x.at l.through.here x.k few));
         after = p;
       })
 
@@ -198,7 +176,7 @@ module _ (laws : Known) (z : Arena) (a : ℕ) (s : Shared) (m : Processor) (x : 
       writes_on : IsBefore z.layout w word → ToWith (held_then z.layout w word) beside None (after_write x (write.goes z.layout w word) (write.gives z.layout w word))
       writes_on b = subst (λ (o : Option (Unit {0})). ToWith (held_then z.layout w word) beside None (after_write x (write.goes z.layout w word) o)) (sym b.goes_on) (record {
         after = None;
-        fine = subst (λ (v : View). ProcessorFacts z a v (at_task (keeping m (held_then z.layout w word)) (task.Store (at_stage x (Writing (write.goes z.layout w word))))) None) (sym (b.leaves.same z a s))
+        fine = subst (λ (v : View). ProcessorFacts z a v (at_task (keeping m (held_then z.layout w word)) (Task.Store (at_stage x (Writing (write.goes z.layout w word))))) None) (sym (b.leaves.same z a s))
             (record { counts = steady-then.0; knows = steady-then.1; right = right; task = (stores_at (Writing w) (Writing (write.goes z.layout w word)) l, few, fit, goes_so laws z.layout (pointer_cell_at z.layout (x.at + x.k)) held w word it b.goes_on) });
         ever = refl;
         answers = refl;
@@ -207,7 +185,7 @@ module _ (laws : Known) (z : Arena) (a : ℕ) (s : Shared) (m : Processor) (x : 
       writing : IsBefore z.layout w word ⊎ IsLast z.layout w word → Own (Writing w) None
       writing (inl b) = record { move = Quiet (write.asks w); may = b.leaves.quiet; words_are = refl; after = does (Writing w) None beside (writes_on b) }
       writing (inr b) = stored_by (Writing w) l few fit (write.asks w) (λ t. Does z a s t (here (Writing w)) None word)
-          (b.stores ∙ ap (λ (c : PointerCell). ask.Store (write.cell_at c) (write.pointer_word w.pointer)) it.same_cell ∙ ap (λ (n : ℕ). ask.Store (field_cell z.layout (x.at + x.k)) n) (word_written z.layout (pointer_cell_at z.layout (x.at + x.k)) held w it))
+          (b.stores ∙ ap (λ (c : PointerCell). Ask.Store (write.cell_at c) (write.pointer_word w.pointer)) it.same_cell ∙ ap (λ (n : ℕ). Ask.Store (field_cell z.layout (x.at + x.k)) n) (word_written z.layout (pointer_cell_at z.layout (x.at + x.k)) held w it))
           (does (Writing w) None (t (Writing w) l few fit)
           (subst (λ (o : Option (Unit {0})). ToWith (held_then z.layout w word) (t (Writing w) l few fit) None (after_write x (write.goes z.layout w word) o)) (sym b.ends) (lands (Writing w) l few fit (held_then z.layout w word) steady-then)))
 
@@ -216,7 +194,7 @@ module _ (laws : Known) (z : Arena) (a : ℕ) (s : Shared) (m : Processor) (x : 
       move = Quiet (asks z.layout (here NilBase));
       may = tt;
       words_are = refl;
-      after = does NilBase None s (fault_at fault.NilBase (plain_store (e.register x.g x.b) plain));
+      after = does NilBase None s (fault_at Fault.NilBase (plain_store (e.register x.g x.b) plain));
     }
 
   own : (q : StoreStage) (pending : Option Answer) → ProcessorFacts z a (view s) (here q) pending → Own q pending
@@ -233,8 +211,8 @@ module _ (laws : Known) (z : Arena) (a : ℕ) (s : Shared) (m : Processor) (x : 
     by (Writing w) (Some y) fine steady = absurd (cc fine.task.0.unanswered)
     by NilBase (Some y) fine steady = absurd (cc fine.task.3)
 
-pub store_steps : Known → (x : Store) → OwnStepAt (task.Store x)
+pub store_steps : Known → (x : Store) → OwnStepAt (Task.Store x)
 store_steps laws x z a s m pending shapes is good fine = go (ap (λ (q : Task). at_task m q) (sym is)) where
-  go : at_task m (task.Store x) ≡ m → Steps z a s (asks z.layout m) (λ t. Does z a s t m pending (s.words (cell_of (asks z.layout m))))
+  go : at_task m (Task.Store x) ≡ m → Steps z a s (asks z.layout m) (λ t. Does z a s t m pending (s.words (cell_of (asks z.layout m))))
   go same = subst (λ (y : Processor). Steps z a s (asks z.layout y) (λ t. Does z a s t y pending (s.words (cell_of (asks z.layout y))))) same
       (own laws z a s m x good x.stage pending (subst (λ (y : Processor). ProcessorFacts z a (view s) y pending) (sym same) fine))

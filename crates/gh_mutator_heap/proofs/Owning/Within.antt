@@ -1,20 +1,11 @@
 -- Each step of the processor is on a word that there is.
 use Rattle.std.proofs.Common.{ℕ, ◌+◌, ◌*◌, ◌/◌, ◌%◌, ◌<◌, Option, arith}
-use Rattle.std.proofs.Math.Nat.{mod-lt}
-use Rattle.gh_mutator_heap.proofs.Owning.Vocabulary.{FactsAt, for_whom, GlobalFacts, HasAt, KnowsAt, NewFacts, register_of, rest, SeatFacts, StoreFacts}
-use Rattle.gh_base.specs.Cells.{InRange}
-use Rattle.gh_mutator.specs.Vocabulary.{Answer, cell_of}
-use Rattle.gh_mutator_heap.specs.Vocabulary.{Arena, Good, View, Assist, Global, GlobalStage, Load, LoadStage, NewStage, Place, Processor, Search, Store, StoreStage, Task, Wait, Wanted, Want}
-use Rattle.gh_heap.specs.Rights.{Rights}
-use Rattle.gh_mutator.specs.declared.store.StoreStage.TheVariants as store_stage
-use Rattle.gh_mutator_heap.specs.Facts.{freeing_new, held_new, KnowsNew, laying_new, locked_new}
+use Rattle.gh_mutator_heap.proofs.Vocabulary.{Answer, Arena, asks_at, Assist, cell_of, FactsAt, for_whom, freeing_new, Global, GlobalFacts, GlobalStage, Good, HasAt, held_new, InRange, KnowsAt, KnowsNew, laying_new, Load, LoadStage, locked_new, mod-lt, NewFacts, NewStage, Processor, register_of, rest, Rights, Search, SeatFacts, Store, StoreFacts, StoreStage, Task, View, Wait, waiting, Want, Wanted, Within}
+use Rattle.gh_mutator.specs.declared.new.NewStage.TheVariants.{Place}
 use Rattle.gh_mutator.specs.Global as global
-use Rattle.gh_mutator.specs.Listing.{asks_at}
 use Rattle.gh_mutator.specs.Load as load
 use Rattle.gh_mutator.specs.New as new
-use Rattle.gh_mutator_heap.specs.Runs.{Within}
 use Rattle.gh_mutator.specs.Store as store
-use Rattle.gh_poll.specs.Wait.{waiting}
 use Rattle.gh_mutator_heap.proofs.Owning.Known.{Known}
 use Rattle.gh_mutator_heap.proofs.Owning.Parked.{stands_always}
 
@@ -36,11 +27,11 @@ module _ (k : Known) (z : Arena) (a : ℕ) (v : View) (m : Processor) (pending :
   load_within x q = grind arith
 
   store_within : (x : Store) (q : StoreStage) → StoreFacts z a v m.poll x pending q → InRange z.layout (cell_of (store.asks_at z.layout (register_of m x.g x.v) x q))
-  store_within x store_stage.NilBase h = tt
-  store_within x store_stage.Page h = page (x.at / 1024)
-  store_within x store_stage.Bits h = bits ((x.at + x.k) / 64)
-  store_within x store_stage.Field h = heap (x.at + x.k)
-  store_within x (store_stage.Writing w) h = k.within.within z.layout w h.3.within
+  store_within x StoreStage.NilBase h = tt
+  store_within x StoreStage.Page h = page (x.at / 1024)
+  store_within x StoreStage.Bits h = bits ((x.at + x.k) / 64)
+  store_within x StoreStage.Field h = heap (x.at + x.k)
+  store_within x (StoreStage.Writing w) h = k.within.within z.layout w h.3.within
 
   global_within : (x : Global) (q : GlobalStage) → GlobalFacts z a v m.poll x pending q → InRange z.layout (cell_of (global.asks_at z.layout (register_of m x.g x.r) x q))
   global_within x q h = grind arith

@@ -1,19 +1,14 @@
 -- A calm processor marks nothing, and stays calm as long as it does not find that marking is on.
 use Rattle.std.proofs.Common.{◌≡◌, ◌≢◌, ℕ, false, List, refl, arith}
-use Rattle.gh_alloc.specs.Marking.{AnObjectIsMarkedBeforeItIsMade}
-use Rattle.gh_phase.specs.declared.view.RunPhase.TheVariants as run
-use Rattle.gh_phase.specs.Handshake.{Party, Stage}
+use Rattle.gh_mutator_writes.proofs.Vocabulary.{AnObjectIsMarkedBeforeItIsMade, Ask, asks, CalmProcessorsMarkNothing, CellsAreTold, FindsNoMarking, HoldsNoBuffer, is_busy_at, IsCalm, IsWrittenCalmly, KnowsNoMarking, Layout, Op, party_of, Polling, Processor, processor_kind, ProcessorInHandshake, RunPhase, RunsWithNone, Shape, stage_at, stage_of, Task}
+use Rattle.gh_phase.specs.Handshake.{Party, Stage, Acts, PlaceBegins, StageGoes}
 use Rattle.gh_phase.specs.Shakes.{IsParked}
-use Rattle.gh_mutator_writes.specs.Calm.{CalmProcessorsMarkNothing, FindsNoMarking, IsCalm, IsWrittenCalmly}
 use Rattle.gh_mutator.specs.ProcessorMarks.{MarksByMoves}
-use Rattle.gh_mutator.specs.ProcessorPlaces.{party_of, stage_of}
-use Rattle.gh_mutator.specs.Vocabulary.{Polling}
-use Rattle.gh_mutator_writes.proofs.Vocabulary.{is_busy_at, Acts, Ask, asks, CellsAreTold, HoldsNoBuffer, KnowsNoMarking, Layout, Op, PlaceBegins, Processor, processor_kind, ProcessorInHandshake, RunsWithNone, Shape, stage_at, StageGoes, Task}
 use Rattle.gh_mutator_writes.proofs.Calm.Holding.{holds_at}
 use Rattle.gh_mutator_writes.proofs.Calm.Writes.{writes_calmly}
 use Rattle.gh_mutator_writes.proofs.Writing.Rows.{leaves_others}
 
-knows : (party : Party) (stage : Stage) → party.view.phase ≢ run.Mark → KnowsNoMarking party stage
+knows : (party : Party) (stage : Stage) → party.view.phase ≢ RunPhase.Mark → KnowsNoMarking party stage
 knows party stage off = grind arith
 
 goes_on : (found : ℕ) (from : Party) (stage : Stage) (step : Ask) (to : Party) (next : Stage) → StageGoes found from stage step to next → KnowsNoMarking from stage → FindsNoMarking step found → KnowsNoMarking to next

@@ -1,10 +1,7 @@
 -- An assist runs while marking is on alone, and is sound: by the tasks of a processor.
 use Rattle.std.proofs.Common.{◌≡◌, ℕ, Bool, List, Option, arith}
-use Rattle.gh_assist.specs.Paying.{AssistsPay}
+use Rattle.gh_mutator_writes.proofs.Vocabulary.{after_assist, after_gc, after_leave, after_poll, after_search, after_wait, Assist, Assisting, AssistsPay, follows, Found, Layout, Leaving, Name, NewStage, Op, Placing, Polling, Processor, processor_kind, Seeking, Shape, SoundAssist, SoundAssistAt, takes_at, Task, Then, Waiting, Wanted}
 use Rattle.gh_mutator.specs.New as new
-use Rattle.gh_mutator.specs.Vocabulary.{Polling}
-use Rattle.gh_mutator.specs.Running.{SoundAssist, SoundAssistAt}
-use Rattle.gh_mutator_writes.proofs.Vocabulary.{after_assist, after_gc, after_leave, after_poll, after_search, after_wait, Assist, Assisting, follows, Found, Layout, Leaving, Name, NewStage, Op, Placing, Processor, processor_kind, Seeking, Shape, takes_at, Task, Then, Waiting, Wanted}
 
 abbrev IsSoundAt : Processor → Type 0
 IsSoundAt m = SoundAssist m.poll m.task

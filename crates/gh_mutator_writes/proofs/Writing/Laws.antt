@@ -1,17 +1,13 @@
 -- A processor writes its own words, and notes those of its stacks.
-use Rattle.std.proofs.Common.{◌≡◌, ◌≢◌, ℕ, zero, suc, Bool, true, false, cond, ltb, List, Option, Some, None, refl, ap, arith}
-use Rattle.std.specs.Prelude.{replicate}
-use Rattle.gh_assist.specs.Paying.{AssistsPay}
-use Rattle.gh_assist.specs.Quiet.{AssistsAreQuiet}
-use Rattle.gh_poll.specs.declared.wait.WaitStage.TheVariants as wait_stage
+use Rattle.std.proofs.Common.{◌≡◌, ◌≢◌, ℕ, zero, suc, Bool, true, false, cond, ltb, List, Option, Some, None, refl, ap, arith, replicate, slice_index}
+use Rattle.gh_mutator_writes.proofs.Vocabulary.{after_gc, after_leave, after_poll, asks, asks_at, AssistsAreQuiet, AssistsPay, BeginsToWait, CellsAreTold, follows, has_left_at, IsWritten, Layout, Leaving, NewStage, Op, Polling, Processor, processor_kind, ProcessorInHandshake, ProcessorWritesItsOwn, Shape, SoundScanAt, StacksAreNoted, takes_at, Task, Then, Waiting, WaitStage, Wanted}
 use Rattle.gh_mutator.specs.New as new
 use Rattle.gh_poll.specs.Poll as poll
-use Rattle.gh_mutator.specs.Vocabulary.{MOST_GOROUTINES, Polling}
+use Rattle.gh_mutator.specs.Vocabulary.{MOST_GOROUTINES}
 use Rattle.gh_poll.specs.Wait as wait
 use Rattle.gh_mutator.specs.Asking.{ProcessorsAskAtTheTrigger}
-use Rattle.gh_mutator_writes.specs.Writing.{BeginsToWait, IsWritten, ProcessorWritesItsOwn, StacksAreNoted}
 use Rattle.gh_mutator.specs.Sweeping.{IsSearching, SearchesAt}
-use Rattle.gh_mutator_writes.proofs.Vocabulary.{after_gc, after_leave, after_poll, asks, asks_at, begins, CellsAreTold, follows, has_left_at, Layout, Leaving, NewStage, Op, Processor, processor_kind, ProcessorInHandshake, Shape, slice_index, SoundScanAt, takes_at, Task, Then, Waiting, WaitStage, Wanted}
+use Rattle.gh_mutator.specs.Listing.{begins}
 use Rattle.gh_mutator_writes.proofs.Writing.Assisting.{assist_begins, assist_takes}
 use Rattle.gh_mutator_writes.proofs.Writing.Polls.{Stays, stays_so}
 use Rattle.gh_mutator_writes.proofs.Writing.Processor.{writes_at}
@@ -25,19 +21,19 @@ begun shapes l m o s = by (has_left_at m.task) where
   by false = begun_stays l m.poll o s
 
 -- no step of a wait comes back to the step that asks for a cycle
-waits_on : (l : Layout) (w : Waiting) (q : WaitStage) (found : ℕ) → (wait.goes_at l w q found).wait.stage ≢ wait_stage.Want
-waits_on l w wait_stage.Want found e = cc
-waits_on l w wait_stage.Polling found e = by (poll.goes l w.poll found) (poll.gives l w.poll found) e where
-  by : (p : Polling) (out : Option (Unit {0})) → (wait.after_poll w p out).wait.stage ≢ wait_stage.Want
+waits_on : (l : Layout) (w : Waiting) (q : WaitStage) (found : ℕ) → (wait.goes_at l w q found).wait.stage ≢ WaitStage.Want
+waits_on l w WaitStage.Want found e = cc
+waits_on l w WaitStage.Polling found e = by (poll.goes l w.poll found) (poll.gives l w.poll found) e where
+  by : (p : Polling) (out : Option (Unit {0})) → (wait.after_poll w p out).wait.stage ≢ WaitStage.Want
   by p None e = cc
   by p (Some u) e = cc
-waits_on l w wait_stage.LoadSwept found e = by (ltb w.wait.known found) e where
-  by : (later : Bool) → (cond later (wait.at_stage w wait_stage.Ended) (wait.polling w)).wait.stage ≢ wait_stage.Want
+waits_on l w WaitStage.LoadSwept found e = by (ltb w.wait.known found) e where
+  by : (later : Bool) → (cond later (wait.at_stage w WaitStage.Ended) (wait.polling w)).wait.stage ≢ WaitStage.Want
   by true e = cc
   by false e = cc
-waits_on l w wait_stage.Ended found e = cc
+waits_on l w WaitStage.Ended found e = cc
 
-gc_on : (m : Processor) (g : ℕ) (w : Waiting) (out : Option (Unit {0})) → w.wait.stage ≢ wait_stage.Want → BeginsToWait (after_gc m g w out).task → ⊥
+gc_on : (m : Processor) (g : ℕ) (w : Waiting) (out : Option (Unit {0})) → w.wait.stage ≢ WaitStage.Want → BeginsToWait (after_gc m g w out).task → ⊥
 gc_on m g w out spared wants = grind arith
 
 -- nor one of a statement

@@ -1,22 +1,17 @@
 -- What a step of a whole processor leaves: its heap, its seat, what it knows of the stack that it scans, and the notes.
 use Rattle.std.proofs.Common.{ℕ, Bool, true, false, cond, ltb, List, Option, Some, None, refl, arith}
+use Rattle.gh_mutator_writes.proofs.Vocabulary.{after_assist, after_gc, after_poll, asks_at, Assist, Assisting, AssistsAreQuiet, begun_with, cache_span, CachedSpan, Found, Held, keeping, Layout, Leaving, Name, NewStage, Op, Place, Placing, Polling, Processor, register_of, Search, Seeking, Shape, SoundScanAt, takes_at, taking, Task, Value, Wait, Waiting, WaitStage, WaitState, Want, Wanted, with_ended, WritesOf}
 use Rattle.gh_alloc.specs.Place as place
 use Rattle.gh_alloc.specs.Search as search
 use Rattle.gh_assist.specs.Listing as assist
-use Rattle.gh_assist.specs.Quiet.{AssistsAreQuiet}
-use Rattle.gh_mutator.specs.declared.task.Task.TheVariants as task
-use Rattle.gh_poll.specs.declared.wait.WaitStage.TheVariants as wait_stage
 use Rattle.gh_mutator.specs.Global as global
 use Rattle.gh_poll.specs.Leave as leave
 use Rattle.gh_mutator.specs.Load as load
 use Rattle.gh_mutator.specs.New as new
 use Rattle.gh_poll.specs.Poll as poll
-use Rattle.gh_mutator.specs.Processor.{keeping}
 use Rattle.gh_mutator.specs.Register as register
 use Rattle.gh_mutator.specs.Store as store
-use Rattle.gh_mutator.specs.Vocabulary.{Polling}
 use Rattle.gh_poll.specs.Wait as wait
-use Rattle.gh_mutator_writes.proofs.Vocabulary.{after_assist, Assist, Assisting, Name, Held, after_gc, after_poll, asks_at, begun_with, cache_span, CachedSpan, Found, Layout, Leaving, NewStage, Op, Place, Placing, Processor, register_of, Search, Seeking, Shape, SoundScanAt, takes_at, taking, Task, Value, Wait, Waiting, WaitStage, WaitState, Wanted, with_ended, Want, WritesOf}
 use Rattle.gh_mutator_writes.proofs.Writing.Polls.{carried, ended_noted, Goes, goes_by, heap_not, marking_not, NotStack, poll_goes, Stays, stays_so, told_noted}
 use Rattle.gh_mutator_writes.proofs.Writing.Routines.{global_writes, load_writes, store_writes}
 use Rattle.gh_mutator_writes.proofs.Writing.Rows.{assist_writes, place_writes}
@@ -44,19 +39,19 @@ assist_stays l m w n x out s = grind arith
 
 -- a wait
 wait_goes : (l : Layout) (w : Waiting) (q : WaitStage) (found : ℕ) → SoundScanAt l w.poll w.poll.stage → Goes l (wait.asks_at w q) w.poll (wait.goes_at l w q found).poll
-wait_goes l w wait_stage.Want found s = goes_by l _ w.poll _ tt (record { seat = refl; scanned = refl; scan = tt })
-wait_goes l w wait_stage.Polling found s = polled (poll.goes l w.poll found) (poll.gives l w.poll found) (poll_goes l w.poll w.poll.stage found s) where
+wait_goes l w WaitStage.Want found s = goes_by l _ w.poll _ tt (record { seat = refl; scanned = refl; scan = tt })
+wait_goes l w WaitStage.Polling found s = polled (poll.goes l w.poll found) (poll.gives l w.poll found) (poll_goes l w.poll w.poll.stage found s) where
   polled : (p : Polling) (out : Option (Unit {0})) → Goes l (poll.asks w.poll) w.poll p → Goes l (poll.asks w.poll) w.poll (wait.after_poll w p out).poll
   polled p None g = g
   polled p (Some u) g = g
-wait_goes l w wait_stage.LoadSwept found s = by (ltb w.wait.known found) where
-  by : (later : Bool) → Goes l (wait.asks_at w wait_stage.LoadSwept) w.poll (cond later (wait.at_stage w wait_stage.Ended) (wait.polling w)).poll
+wait_goes l w WaitStage.LoadSwept found s = by (ltb w.wait.known found) where
+  by : (later : Bool) → Goes l (wait.asks_at w WaitStage.LoadSwept) w.poll (cond later (wait.at_stage w WaitStage.Ended) (wait.polling w)).poll
   by true = goes_by l _ w.poll _ tt (stays_so l w.poll s)
   by false = goes_by l _ w.poll _ tt (record { seat = refl; scanned = refl; scan = tt })
-wait_goes l w wait_stage.Ended found s = goes_by l _ w.poll _ tt (record { seat = refl; scanned = refl; scan = tt })
+wait_goes l w WaitStage.Ended found s = goes_by l _ w.poll _ tt (record { seat = refl; scanned = refl; scan = tt })
 
 module _ (l : Layout) (k : AssistsAreQuiet) (shapes : List Shape) (m : Processor) (found : ℕ) (s : SoundScanAt l m.poll m.poll.stage) where
-  gc_goes : (g : ℕ) (x : WaitState) → Goes l (asks_at l m (task.Gc g x)) m.poll (takes_at l shapes m (task.Gc g x) found).poll
+  gc_goes : (g : ℕ) (x : WaitState) → Goes l (asks_at l m (Task.Gc g x)) m.poll (takes_at l shapes m (Task.Gc g x) found).poll
   gc_goes g x = by (wait.gives l (wait.waiting x m.poll) found) where
     by : (out : Option (Unit {0})) → Goes l (wait.asks (wait.waiting x m.poll)) m.poll (after_gc m g (wait.goes l (wait.waiting x m.poll) found) out).poll
     by None = wait_goes l (wait.waiting x m.poll) x.stage found s
@@ -75,30 +70,30 @@ module _ (l : Layout) (k : AssistsAreQuiet) (shapes : List Shape) (m : Processor
   new_goes n (Want u) = goes_by l _ m.poll _ tt (stays_so l m.poll s)
   new_goes n (Assist u y) = goes_by l _ m.poll _ (assist_writes NotStack marking_not (assist.asks l y) (λ old new e. tt) (k.writes l y)) (assist_stays l m n u (assist.goes l y found) (assist.gives l y found) s)
 
-  polls : Goes l (poll.asks m.poll) m.poll (takes_at l shapes m task.Poll found).poll
+  polls : Goes l (poll.asks m.poll) m.poll (takes_at l shapes m Task.Poll found).poll
   polls = by (poll.gives l m.poll found) where
     by : (out : Option (Unit {0})) → Goes l (poll.asks m.poll) m.poll (after_poll m (poll.goes l m.poll found) out).poll
     by None = poll_goes l m.poll m.poll.stage found s
     by (Some u) = poll_goes l m.poll m.poll.stage found s
 
-  leaves : (x : Leaving) → Goes l (leave.asks x) m.poll (takes_at l shapes m (task.Leave x) found).poll
+  leaves : (x : Leaving) → Goes l (leave.asks x) m.poll (takes_at l shapes m (Task.Leave x) found).poll
   leaves x = grind arith
 
-  ends : (g : ℕ) → Goes l (asks_at l m (task.End g)) m.poll (takes_at l shapes m (task.End g) found).poll
+  ends : (g : ℕ) → Goes l (asks_at l m (Task.End g)) m.poll (takes_at l shapes m (Task.End g) found).poll
   ends g = record { seat = refl; noted = told_noted g _ m.poll.local.scanned; scan = carried l m.poll (with_ended m.poll g).local refl (λ h. ended_noted m.poll.local.scanned g h) m.poll.stage s }
 
   pub goes_at : (t : Task) → Goes l (asks_at l m t) m.poll (takes_at l shapes m t found).poll
-  goes_at task.Idle = goes_by l _ m.poll _ tt (stays_so l m.poll s)
-  goes_at task.Left = goes_by l _ m.poll _ tt (stays_so l m.poll s)
-  goes_at (task.Load x) = goes_by l _ m.poll _ (load_writes NotStack heap_not l x) (taking_stays l m x.g x.d (load.step l x found).sets s)
-  goes_at (task.Store x) = goes_by l _ m.poll _ (store_writes NotStack heap_not l (register_of m x.g x.v) x (λ w e. marking_not)) (kept_stays l m x.g x.v (store.held_behind l m.poll.local.held x.stage found) (store.step l m.poll.local (register_of m x.g x.v) x found).sets s)
-  goes_at (task.Global x) = goes_by l _ m.poll _ (global_writes NotStack heap_not l (register_of m x.g x.r) x (λ w e. marking_not)) (kept_stays l m x.g x.r (global.held_behind l m.poll.local.held x.stage found) (global.step l (register_of m x.g x.r) x found).sets s)
-  goes_at (task.Register x) = goes_by l _ m.poll _ tt (taking_stays l m x.g x.d (register.step (register_of m x.g (register.read_of x)) x).sets s)
-  goes_at (task.New x) = new_goes x.wanted x.stage
-  goes_at (task.Gc g x) = gc_goes g x
-  goes_at task.Poll = polls
-  goes_at (task.End g) = ends g
-  goes_at (task.Leave x) = leaves x
+  goes_at Task.Idle = goes_by l _ m.poll _ tt (stays_so l m.poll s)
+  goes_at Task.Left = goes_by l _ m.poll _ tt (stays_so l m.poll s)
+  goes_at (Task.Load x) = goes_by l _ m.poll _ (load_writes NotStack heap_not l x) (taking_stays l m x.g x.d (load.step l x found).sets s)
+  goes_at (Task.Store x) = goes_by l _ m.poll _ (store_writes NotStack heap_not l (register_of m x.g x.v) x (λ w e. marking_not)) (kept_stays l m x.g x.v (store.held_behind l m.poll.local.held x.stage found) (store.step l m.poll.local (register_of m x.g x.v) x found).sets s)
+  goes_at (Task.Global x) = goes_by l _ m.poll _ (global_writes NotStack heap_not l (register_of m x.g x.r) x (λ w e. marking_not)) (kept_stays l m x.g x.r (global.held_behind l m.poll.local.held x.stage found) (global.step l (register_of m x.g x.r) x found).sets s)
+  goes_at (Task.Register x) = goes_by l _ m.poll _ tt (taking_stays l m x.g x.d (register.step (register_of m x.g (register.read_of x)) x).sets s)
+  goes_at (Task.New x) = new_goes x.wanted x.stage
+  goes_at (Task.Gc g x) = gc_goes g x
+  goes_at Task.Poll = polls
+  goes_at (Task.End g) = ends g
+  goes_at (Task.Leave x) = leaves x
 
 -- what is begun
 pub begun_stays : (l : Layout) (p : Polling) (o : Op) → SoundScanAt l p p.stage → Stays l p (begun_with p o)

@@ -1,14 +1,10 @@
 -- The routine finds the first fit.
 use Rattle.std.proofs.Common.{◌≡◌, ◌≢◌, ℕ, zero, suc, ◌+◌, ◌-◌, ◌<◌, ◌≤◌, ◌⊎◌, inl, inr, Bool, true, false, not, cond, eqb, ltb, Some, None, refl, sym, ap, subst, ◌∙◌, arith}
-use Rattle.std.proofs.lemmas.Bool.Decides.{nat_tests}
+use Rattle.gh_pages.proofs.Vocabulary.{after_look, asks, asks_at, at_stage, Body, CarveStage, Carving, Ended, EndsWithNone, FindsFirstFit, first_store, FitsAt, given, given_at, goes, goes_at, GoesOnWith, Head, IsFirstFit, Loads, Look, nat_tests, told}
 use Rattle.gh_base.specs.declared.cell.Cell.TheVariants.{Page}
 use Rattle.gh_base.specs.declared.cell.Ask.TheVariants.{Load}
 use Rattle.gh_base.specs.declared.layout.Layout.{Layout}
 use Rattle.gh_pages.specs.declared.carve.Span.{Span}
-use Rattle.gh_pages.specs.declared.carve.CarveStage.{CarveStage}
-use Rattle.gh_pages.specs.declared.carve.CarveStage.TheVariants.{Look, Body, Head, Ended}
-use Rattle.gh_pages.specs.FirstFit.{IsFirstFit, FitsAt, Loads, GoesOnWith, EndsWithNone, FindsFirstFit, told}
-use Rattle.gh_pages.specs.Listing.{Carving, asks, asks_at, goes_at, at_stage, after_look, first_store, given, given_at, goes}
 use Rattle.gh_pages.proofs.Carving.Rows.{LookedAt, free_at, first_is, none_more, look_on_free, look_on_taken, looked_at_none}
 
 abbrev is_look : CarveStage → Bool

@@ -1,9 +1,7 @@
 -- Rows of free pages, and which is the first that fits.
 use Rattle.std.proofs.Common.{◌≡◌, ◌≢◌, ℕ, ◌+◌, ◌-◌, ◌<◌, ◌≤◌, inl, inr, Bool, true, false, sym, subst, arith}
 use Rattle.std.proofs.lemmas.Bool.{cases_lt, cases_order}
-use Rattle.gh_base.specs.Packing.{page_of}
-use Rattle.gh_pages.specs.Listing.{is_free}
-use Rattle.gh_pages.specs.FirstFit.{Fits, IsFirstFit}
+use Rattle.gh_pages.proofs.Vocabulary.{Fits, is_free, IsFirstFit, page_of}
 
 module _ (pages count : ℕ) (found : ℕ → ℕ) where
   abbrev pub free_at : ℕ → Bool

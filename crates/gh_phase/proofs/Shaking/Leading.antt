@@ -1,17 +1,6 @@
 -- One step of the coordinator in the handshake.
 use Rattle.std.proofs.Common.{subst, ◌≡◌, ℕ, ◌^◌, ◌<◌, refl, ◌∙◌, ap, arith}
-use Rattle.gh_base.specs.declared.cell.Cell.TheVariants.{Phase, Gen, Begun, Ack}
-use Rattle.gh_base.specs.declared.cell.Ask.{Ask}
-use Rattle.gh_base.specs.declared.cell.Ask.TheVariants.{Load, Store}
-use Rattle.gh_base.specs.declared.pack.PhaseWord.{PhaseWord}
-use Rattle.gh_base.specs.Cells.{Words}
-use Rattle.gh_base.specs.Packing.{phase_of, phase_word}
-use Rattle.gh_base.specs.Steps.{effect, cell_of}
-use Rattle.gh_phase.specs.declared.view.RunPhase.{RunPhase}
-use Rattle.gh_phase.specs.declared.view.RunPhase.TheVariants.{Off, Finished}
-use Rattle.gh_phase.specs.declared.view.View.{View}
-use Rattle.gh_phase.specs.Handshake.{begins, behind_ack, Calm, ends, finishes, goes, IsAcked, IsQuietInHandshake, is_stop, last_of, Lead, LeadGoes, Looks, next_cycle, next_generation, next_stop, Post, quiet, run_word, sees, Stage, stop_word, Stopped, stops}
-use Rattle.gh_phase.specs.Shakes.{phase_stored}
+use Rattle.gh_phase.proofs.Vocabulary.{Ack, Ask, begins, Begun, behind_ack, Calm, cell_of, effect, ends, Finished, finishes, Gen, goes, is_stop, IsAcked, IsQuietInHandshake, last_of, Lead, LeadGoes, Load, Looks, next_cycle, next_generation, next_stop, Off, Phase, phase_of, phase_stored, phase_word, PhaseWord, Post, quiet, run_word, RunPhase, sees, Stage, stop_word, Stopped, stops, Store, View, Words}
 use Rattle.gh_phase.proofs.Shaking.Owning.{Shown, still}
 use Rattle.gh_phase.proofs.Shaking.Standing.{Announced, Fits, keeps_finish, keeps_parked, keeps_stop, next_fits, parked, run_told, Stands, stop_told}
 

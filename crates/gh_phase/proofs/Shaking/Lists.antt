@@ -1,17 +1,6 @@
 -- What holds after every legal list of steps of actors that are in the handshake.
 use Rattle.std.proofs.Common.{inl, subst, ◌≡◌, ℕ, ◌+◌, ◌<◌, Bool, true, false, cond, ◌==◌, refl, sym, ◌∙◌, ap, arith, eq-eqb, List, [], ◌∷◌, Option}
-use Rattle.std.proofs.lemmas.Bool.Decides.{nat_tests}
-use Rattle.gh_base.specs.declared.cell.Cell.TheVariants.{Ack}
-use Rattle.gh_base.specs.declared.cell.Ask.{Ask}
-use Rattle.gh_base.specs.declared.machine.Entry.{Entry}
-use Rattle.gh_base.specs.declared.pack.PhaseWord.{PhaseWord}
-use Rattle.gh_base.specs.Cells.{Words}
-use Rattle.gh_base.specs.Lists.{Begins, Legal, MayFollow, Setting, started, state_of, words_after}
-use Rattle.gh_base.specs.Packing.{phase_of, phase_word}
-use Rattle.gh_base.specs.Steps.{cell_of, effect}
-use Rattle.gh_phase.specs.declared.view.RunPhase.{RunPhase}
-use Rattle.gh_phase.specs.Handshake.{Acts, first_lead, HandshakePlace, is_stop, IsHandshake, last_of, Lead, LeadGoes, Leads, Party, PlaceBegins, PlaceGoes, Post, run_word, Stage, stop_word}
-use Rattle.gh_phase.specs.Shakes.{IsAwake, last_phase, phase_stored, Shakes}
+use Rattle.gh_phase.proofs.Vocabulary.{Ack, Acts, Ask, Begins, cell_of, effect, Entry, first_lead, HandshakePlace, is_stop, IsAwake, IsHandshake, last_of, last_phase, Lead, LeadGoes, Leads, Legal, MayFollow, nat_tests, Party, phase_of, phase_stored, phase_word, PhaseWord, PlaceBegins, PlaceGoes, Post, run_word, RunPhase, Setting, Shakes, Stage, started, state_of, stop_word, Words, words_after}
 use Rattle.gh_phase.proofs.Shaking.Leading.{announced, Good, led, Next}
 use Rattle.gh_phase.proofs.Shaking.Owning.{own, OwnStep, Shown}
 use Rattle.gh_phase.proofs.Shaking.Standing.{Announced, Copies, Fits, is_gone, parked, Stands}

@@ -1,18 +1,6 @@
 -- One step of a processor or a worker in the handshake.
 use Rattle.std.proofs.Common.{◌≡◌, ℕ, ◌⊎◌, inl, inr, refl, ◌∙◌, ap, arith}
-use Rattle.gh_base.specs.declared.cell.Cell.TheVariants.{Phase, Gen, Begun, Ack}
-use Rattle.gh_base.specs.declared.cell.Ask.{Ask}
-use Rattle.gh_base.specs.declared.cell.Ask.TheVariants.{Store}
-use Rattle.gh_base.specs.declared.pack.PhaseWord.{PhaseWord}
-use Rattle.gh_base.specs.declared.pack.TheConstants.{GONE}
-use Rattle.gh_base.specs.Cells.{Words, put}
-use Rattle.gh_base.specs.Packing.{phase_of, phase_word}
-use Rattle.gh_base.specs.Steps.{effect, cell_of}
-use Rattle.gh_phase.specs.declared.resume.ResumeStage.{ResumeStage}
-use Rattle.gh_phase.specs.declared.resume.ResumeStage.TheVariants.{Acknowledge}
-use Rattle.gh_phase.specs.declared.view.RunPhase.{RunPhase}
-use Rattle.gh_phase.specs.Handshake.{Awake, FromAwake, Gives, Gone, IsQuietInHandshake, Leaves, Party, resume_asks, Resumes, Stage, StageGoes}
-use Rattle.gh_phase.specs.Shakes.{phase_stored}
+use Rattle.gh_phase.proofs.Vocabulary.{Ack, Acknowledge, Ask, Awake, Begun, cell_of, effect, FromAwake, Gen, Gives, GONE, Gone, IsQuietInHandshake, Leaves, Party, Phase, phase_of, phase_stored, phase_word, PhaseWord, put, resume_asks, Resumes, ResumeStage, RunPhase, Stage, StageGoes, Store, Words}
 use Rattle.gh_phase.proofs.Shaking.Standing.{Announced, Finds, Fits, Moves, owed_on, resume_ack, resumes, Stands, word_of}
 
 -- the words are as announced

@@ -1,17 +1,7 @@
 -- What is known of a processor or a worker by where it stands in the handshake, and what the coordinator's steps leave of that.
 use Rattle.std.proofs.Common.{◌≡◌, ℕ, ◌^◌, ◌<◌, ◌⊎◌, Bool, true, false, cond, ap, arith, Some, None}
-use Rattle.std.proofs.lemmas.Bool.Decides.{nat_tests}
-use Rattle.gh_base.specs.declared.pack.Phase.TheVariants as kind
-use Rattle.gh_base.specs.declared.pack.PhaseWord.{PhaseWord}
-use Rattle.gh_base.specs.declared.pack.TheConstants.{GONE}
-use Rattle.gh_base.specs.Packing.{phase_of, phase_word}
-use Rattle.gh_phase.specs.declared.resume.ResumeStage.{ResumeStage}
-use Rattle.gh_phase.specs.declared.resume.ResumeStage.TheVariants.{Acknowledge, LoadPhase, LoadGeneration, LoadBegun, Ended}
-use Rattle.gh_phase.specs.declared.view.RunPhase.{RunPhase}
-use Rattle.gh_phase.specs.declared.view.RunPhase.TheVariants.{Off, Finished}
-use Rattle.gh_phase.specs.declared.view.View.{View}
-use Rattle.gh_phase.specs.Handshake.{Awake, Gives, Gone, IsAcked, Leaves, next_stop, Resumes, resume_goes, resume_view, run_word, Stage, stop_before, stop_word}
-use Rattle.gh_phase.specs.Shakes.{IsParked}
+use Rattle.gh_phase.proofs.Vocabulary.{Acknowledge, Awake, Ended, Finished, Gives, GONE, Gone, IsAcked, IsParked, Leaves, LoadBegun, LoadGeneration, LoadPhase, nat_tests, next_stop, Off, phase_of, phase_word, PhaseWord, resume_goes, resume_view, Resumes, ResumeStage, run_word, RunPhase, Stage, stop_before, stop_word, View}
+use Rattle.gh_base.specs.declared.pack.Phase.{Phase}
 use Rattle.gh_phase.specs.Views.{run_phase}
 
 -- what the coordinator has announced: the number of the stop, whether the phase is that stop, the last phase that was none, the sweep generation, and the cycles begun
@@ -65,7 +55,7 @@ owed_on v on = rw on
 
 -- the phase words of a stop, and of a world that runs
 abbrev at_stop : ℕ → PhaseWord
-at_stop stops = record { stops = stops; phase = kind.Stop }
+at_stop stops = record { stops = stops; phase = Phase.Stop }
 
 module _ (back : (p : PhaseWord) → phase_of (phase_word p) ≡ p) where
   pub stop_told : (stops : ℕ) → run_phase (phase_of (stop_word stops)).phase ≡ None

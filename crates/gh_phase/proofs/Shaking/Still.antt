@@ -1,17 +1,6 @@
 -- What one entry more leaves: who is gone stays gone, the last phase stays, and in a stopped world nobody but the coordinator moves.
 use Rattle.std.proofs.Common.{subst, ◌≡◌, ℕ, ◌<◌, Bool, true, false, ◌==◌, refl, sym, ◌∙◌, arith, List, ◌∷◌}
-use Rattle.std.proofs.lemmas.Bool.Decides.{nat_tests}
-use Rattle.gh_base.specs.declared.cell.Cell.TheVariants.{Phase, Ack}
-use Rattle.gh_base.specs.declared.cell.Ask.TheVariants.{Load}
-use Rattle.gh_base.specs.declared.machine.Entry.{Entry}
-use Rattle.gh_base.specs.declared.pack.PhaseWord.{PhaseWord}
-use Rattle.gh_base.specs.declared.pack.TheConstants.{GONE}
-use Rattle.gh_base.specs.Lists.{Legal, Setting, started, state_of, words_after}
-use Rattle.gh_base.specs.Packing.{phase_of, phase_word}
-use Rattle.gh_base.specs.Steps.{cell_of}
-use Rattle.gh_phase.specs.declared.view.RunPhase.TheVariants.{Finished}
-use Rattle.gh_phase.specs.Handshake.{Acts, Gone, IsAcked, IsHandshake, is_stop, Leads, HandshakePlace, PlaceBegins, PlaceGoes, Stage, StageGoes, stop_word, Stopped}
-use Rattle.gh_phase.specs.Shakes.{FinishedStays, GoneStay, IsParked, last_phase, NobodyMoves, phase_stored}
+use Rattle.gh_phase.proofs.Vocabulary.{Ack, Acts, cell_of, Entry, Finished, FinishedStays, GONE, Gone, GoneStay, HandshakePlace, is_stop, IsAcked, IsHandshake, IsParked, last_phase, Leads, Legal, Load, nat_tests, NobodyMoves, Phase, phase_of, phase_stored, phase_word, PhaseWord, PlaceBegins, PlaceGoes, Setting, Stage, StageGoes, started, state_of, stop_word, Stopped, words_after}
 use Rattle.gh_phase.proofs.Shaking.Leading.{announced}
 use Rattle.gh_phase.proofs.Shaking.Lists.{begins_fine, begins_lead, begun_place, HandshakeFacts, holds, Inv, own_place, state_other, state_own}
 use Rattle.gh_phase.proofs.Shaking.Standing.{Announced, Fits, is_gone, parked, Stands, word_of}

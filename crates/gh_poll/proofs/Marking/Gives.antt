@@ -1,13 +1,9 @@
 -- While marking is on, each step of the giving back is made of moves that its seat may make.
-use Rattle.std.proofs.Common.{◌≡◌, ℕ, ◌+◌, Bool, true, false, cond, eqb, List, [], ◌∷◌, drop, Option, Some, None, arith}
-use Rattle.gh_base.specs.declared.cell.Ask.TheVariants.{Store, Swap}
-use Rattle.gh_base.specs.declared.cell.Cell.TheVariants as cell
+use Rattle.std.proofs.Common.{ℕ, ◌+◌, Bool, true, false, cond, eqb, List, [], ◌∷◌, drop, Option, Some, None, arith}
+use Rattle.gh_poll.proofs.Vocabulary.{after_buffer, asks, CachedSpan, Cell, cell_of, Cycle, effect, Ended, first_cached, GiveBuffer, GiveFacts, GiveSpan, GiveStage, GiveStageFacts, Giving, giving_buffer, goes, goes_at, Good, Hands, head_store, Held, holding_only, Keeps, KnowsObjects, landing, Lock, nothing, Others, Shared, stage_from, Steps, Store, Swap, Unlock}
 use Rattle.gh_wbuf.specs.BufferGiving as buffer
 use Rattle.gh_wbuf.specs.Facts as buffer_facts
-use Rattle.gh_poll.specs.declared.give.GiveStage.TheVariants.{Lock, GiveSpan, Unlock, GiveBuffer, Ended}
-use Rattle.gh_poll.specs.Give.{after_buffer, asks, asks_at, first_cached, Giving, giving_buffer, goes, goes_at, head_store, is_busy, opening, stage_from}
-use Rattle.gh_poll.specs.MarkFacts.{GiveFacts, GiveStageFacts, holding_only}
-use Rattle.gh_poll.specs.MarkVocabulary.{CachedSpan, Cycle, GiveStage, Good, Hands, Held, Keeps, KnowsObjects, Others, Shared, Steps, cell_of, effect, landing, nothing}
+use Rattle.gh_poll.specs.Give.{asks_at, opening}
 use Rattle.gh_poll.proofs.Marking.Known.{by_load, by_quiet, Known}
 
 -- where it goes by what is cached, and by what is held
@@ -23,18 +19,14 @@ module _ (k : Known) (z : Cycle) (a : ℕ) where
   pub gives_begin : (t : Shared) (seat generation : ℕ) (cache : List (Option CachedSpan)) (held : Option Held) → Hands a t (holding_only held) → GiveFacts z a t (opening seat generation cache held)
   gives_begin t seat generation cache held x = grind arith
 
-  -- once it has ended nothing is left
-  pub nothing_left : (t : Shared) (g : Giving) → is_busy g.stage ≡ false → GiveFacts z a t g → Hands a t nothing × (g.held ≡ None)
-  nothing_left t g e f = grind arith
-
   module _ (s : Shared) (good : Good z s) (objects : KnowsObjects z s) where
     abbrev Leads : (m : Giving) → GiveStage → Type 0
     Leads m p = Steps z a s (asks_at m p) (λ t. Keeps z a s t × GiveFacts z a t (goes_at m p (s.words (cell_of (asks_at m p)))))
 
     module _ (m : Giving) where
       locks : Hands a s (holding_only m.held) → Leads m Lock
-      locks x = by_quiet k z a s good (Swap cell.Lock 0 (m.seat + 1)) (holding_only m.held) (λ t. Keeps z a s t × GiveFacts z a t (goes_at m Lock (s.words cell.Lock))) tt x
-          (λ t kept h. (kept, then t h (eqb (s.words cell.Lock) 0))) where
+      locks x = by_quiet k z a s good (Swap Cell.Lock 0 (m.seat + 1)) (holding_only m.held) (λ t. Keeps z a s t × GiveFacts z a t (goes_at m Lock (s.words Cell.Lock))) tt x
+          (λ t kept h. (kept, then t h (eqb (s.words Cell.Lock) 0))) where
             then : (t : Shared) → Hands a t (holding_only m.held) → (free : Bool) → GiveStageFacts z a t m.held (cond free (stage_from m.cache 0) Lock)
             then t h true = first_facts z a t m.held 0 (drop 0 m.cache) h
             then t h false = h
@@ -44,16 +36,16 @@ module _ (k : Known) (z : Cycle) (a : ℕ) where
 
       gives_at : (p : GiveStage) → GiveStageFacts z a s m.held p → Leads m p
       gives_at Lock x = locks x
-      gives_at (GiveSpan class c) x = by_quiet k z a s good (head_store m.generation class c) (holding_only m.held) (λ t. Keeps z a s t × GiveFacts z a t (goes_at m (GiveSpan class c) (s.words (cell.Page c.head)))) tt x
+      gives_at (GiveSpan class c) x = by_quiet k z a s good (head_store m.generation class c) (holding_only m.held) (λ t. Keeps z a s t × GiveFacts z a t (goes_at m (GiveSpan class c) (s.words (Cell.Page c.head)))) tt x
           (λ t kept h. (kept, first_facts z a t m.held (class + 1) (drop (class + 1) m.cache) h))
-      gives_at Unlock x = by_quiet k z a s good (Store cell.Lock 0) (holding_only m.held) (λ t. Keeps z a s t × GiveFacts z a t (goes_at m Unlock (s.words cell.Lock))) tt x
+      gives_at Unlock x = by_quiet k z a s good (Store Cell.Lock 0) (holding_only m.held) (λ t. Keeps z a s t × GiveFacts z a t (goes_at m Unlock (s.words Cell.Lock))) tt x
           (λ t kept h. (kept, buffer_facts_of t m.held h))
       gives_at (GiveBuffer b) x =
           let n : ℕ = s.words (cell_of (buffer.asks b)) in
           landing z a s (effect s.words (buffer.asks b)) (λ t. Keeps z a s t × buffer_facts.GiveFacts z a t nothing (buffer.goes b n)) (λ t. Keeps z a s t × GiveFacts z a t (after_buffer m (buffer.goes b n) (buffer.gives b n)))
           (λ t went h. (h.0, buffer_then t b n (buffer.gives b n) h.1))
           (k.buffers.gives.own_step z a s nothing b good objects x)
-      gives_at Ended x = by_load k z a s good cell.Touch (λ t. Keeps z a s t × GiveFacts z a t (goes_at m Ended (s.words cell.Touch))) ((k.go_on z a).stays s, x)
+      gives_at Ended x = by_load k z a s good Cell.Touch (λ t. Keeps z a s t × GiveFacts z a t (goes_at m Ended (s.words Cell.Touch))) ((k.go_on z a).stays s, x)
 
     pub gives_on : (m : Giving) → GiveFacts z a s m → Steps z a s (asks m) (λ t. Keeps z a s t × GiveFacts z a t (goes m (s.words (cell_of (asks m)))))
     gives_on m f = grind (arith, gives_at)

@@ -1,20 +1,12 @@
 -- What the laws of the moves and of the routines say, and what a processor knows of its stacks after a scan.
-use Rattle.std.proofs.Common.{◌≡◌, ◌≢◌, ℕ, ◌<◌, Bool, true, false, cond, eqb, List, length, refl, ◌∙◌, arith}
-use Rattle.std.specs.Prelude.{slice_index, slice_set}
+use Rattle.std.proofs.Common.{◌≡◌, ◌≢◌, ℕ, ◌<◌, Bool, true, false, cond, eqb, List, length, refl, ◌∙◌, arith, slice_index, slice_set}
 use Rattle.std.proofs.lemmas.Bool.{eqb-true}
-use Rattle.std.proofs.lemmas.Bool.Decides.{nat_tests}
 use Rattle.std.proofs.lemmas.List.{get_or-set_other, get_or-set_same, length-set}
-use Rattle.gh_base.specs.declared.cell.Cell.{Cell}
-use Rattle.gh_base.specs.declared.cell.Cell.TheVariants as cell
-use Rattle.gh_base.specs.declared.cell.Ask.TheVariants.{Load}
-use Rattle.gh_base.specs.declared.pack.TheConstants.{END}
+use Rattle.gh_poll.proofs.Vocabulary.{Ask, Cell, Cycle, effect, END, Good, Hands, InHand, IsOf, IsQuietInMarking, Keeps, KnowsStacks, lands_by, lands_still, Load, moved, nat_tests, Quiet, ScanStack, Shared, Steps, Value}
 use Rattle.gh_marks.specs.Laws.{EachHandFollows, EachHandLasts, EachOwnMoveLeaves, EachStepGoesByMoves, WhatIsKeptGoesOn}
-use Rattle.gh_marks.specs.Moves.{IsQuietInMarking, Quiet, lands_by, lands_still}
 use Rattle.gh_shade.specs.Facts.{ShadesByMoves}
 use Rattle.gh_stack.specs.Facts.{StacksAreScannedByMoves}
 use Rattle.gh_wbuf.specs.Facts.{BuffersPassByMoves}
-use Rattle.gh_poll.specs.MarkFacts.{KnowsStacks}
-use Rattle.gh_poll.specs.MarkVocabulary.{Ask, Cycle, Good, Hands, InHand, IsOf, Keeps, ScanStack, Shared, Steps, Value, effect, moved}
 
 pub record Known : Type 0 where
   pub last : EachHandLasts
@@ -27,19 +19,19 @@ pub record Known : Type 0 where
   pub stacks : StacksAreScannedByMoves
 
 -- a scan changes the word of its stack alone, and is noted
-module _ (z : Cycle) (a : ℕ) (s : Shared) (g : ℕ) (stacks : List (List Value)) (notes : List ℕ) (own : IsOf z.arena a g) (goes_on : s.words (cell.Scanned g) ≢ END) (f : KnowsStacks z a s stacks notes) where
+module _ (z : Cycle) (a : ℕ) (s : Shared) (g : ℕ) (stacks : List (List Value)) (notes : List ℕ) (own : IsOf z.arena a g) (goes_on : s.words (Cell.Scanned g) ≢ END) (f : KnowsStacks z a s stacks notes) where
   abbrev then : Shared
   then = moved z a s (ScanStack g)
 
-  on_before : (h : ℕ) → then.words (cell.Scanned h) ≢ END → s.words (cell.Scanned h) ≢ END
+  on_before : (h : ℕ) → then.words (Cell.Scanned h) ≢ END → s.words (Cell.Scanned h) ≢ END
   on_before h on = grind arith
 
-  noted_then : (h : ℕ) → IsOf z.arena a h → slice_index (slice_set notes g z.number) h ≡ then.words (cell.Scanned h)
+  noted_then : (h : ℕ) → IsOf z.arena a h → slice_index (slice_set notes g z.number) h ≡ then.words (Cell.Scanned h)
   noted_then h mine = by (eqb g h) refl where
     there : g < length notes
     there = let few = f.places in let inside = own.0 in omega arith
 
-    by : (b : Bool) → eqb g h ≡ b → slice_index (slice_set notes g z.number) h ≡ cond b z.number (s.words (cell.Scanned h))
+    by : (b : Bool) → eqb g h ≡ b → slice_index (slice_set notes g z.number) h ≡ cond b z.number (s.words (Cell.Scanned h))
     by true e = rw (← eqb-true g h e) (get_or-set_same notes g z.number 0 there)
     by false e = get_or-set_other notes g h z.number 0 (let differs : h ≢ g = grind (arith, nat_tests) in differs) ∙ f.noted h mine
 

@@ -1,21 +1,15 @@
 -- While marking is on, each step of a poll is made of moves that its seat may make.
-use Rattle.std.proofs.Common.{◌≡◌, ◌≢◌, ℕ, Bool, true, false, Option, Some, None, refl, ap, sym, subst, ◌∙◌, arith}
-use Rattle.std.specs.Prelude.{[], is_none}
-use Rattle.gh_base.specs.declared.cell.Cell.TheVariants as cell
-use Rattle.gh_base.specs.declared.pack.TheConstants.{END}
-use Rattle.gh_phase.specs.declared.resume.ResumeStage.TheVariants as resume_stage
-use Rattle.gh_phase.specs.declared.view.RunPhase.TheVariants as run
+use Rattle.std.proofs.Common.{◌≡◌, ◌≢◌, ℕ, Bool, true, false, Option, Some, None, refl, ap, sym, subst, ◌∙◌, arith, [], is_none, slice_index_or, slice_set}
+use Rattle.gh_poll.proofs.Vocabulary.{after_mark, after_resume, after_room, asks_at, by_phase, Cell, cell_of, counted, Cycle, due, due_scans, effect, END, FindRoom, GiveFacts, giving, Good, Hands, Held, holding_only, is_busy, IsBetween, IsOf, IsUnscanned, Keeps, KnowsCycle, KnowsNumber, KnowsObjects, KnowsStacks, landing, Load, LoadPhase, Local, Marking, MarkingIsQuiet, marks_then, moved, nothing, Others, phase_of, PollEndsWithRoom, PollFacts, Polling, PollsByMoves, PollStage, PollStageFacts, Resumed, resumed, Resuming, run_phase, RunPhase, ScanFacts, scanned, scans, ScanStack, Shared, stacks_last, Steps, stops_then, Store, WhatPollsRunIsQuiet}
 use Rattle.gh_phase.specs.Listing as resume
 use Rattle.gh_phase.specs.Waiting.{phase_on}
 use Rattle.gh_wbuf.specs.Facts as buffer_facts
 use Rattle.gh_wbuf.specs.RoomFinding as room
-use Rattle.gh_poll.specs.declared.poll.PollStage.TheVariants.{LoadPhase, Giving, Resuming, Marking, FindRoom, Ended}
+use Rattle.gh_poll.specs.declared.poll.PollStage.TheVariants.{Giving, Ended}
 use Rattle.gh_poll.specs.Give as give
-use Rattle.gh_poll.specs.MarkFacts.{GiveFacts, PollEndsWithRoom, IsBetween, KnowsCycle, KnowsNumber, KnowsStacks, PollFacts, PollStageFacts, PollsByMoves, ScanFacts, stacks_last}
 use Rattle.gh_poll.specs.MarkStack as mark
-use Rattle.gh_poll.specs.Poll.{after_mark, after_resume, after_room, asks_at, at_stage, by_phase, counted, due, giving, goes_at, is_busy, marks_then, Polling, resumed, scanned, scans, stops_then}
-use Rattle.gh_poll.proofs.Vocabulary.{cell_of, Cycle, effect, Good, Hands, Held, holding_only, IsOf, Keeps, KnowsObjects, landing, Load, Local, MarkingIsQuiet, moved, nothing, Others, phase_of, PollStage, WhatPollsRunIsQuiet, Resumed, ResumeStage, run_phase, RunPhase, ScanStack, Shared, slice_index_or, slice_set, Steps, Store}
-use Rattle.gh_poll.specs.Due.{due_scans, IsUnscanned}
+use Rattle.gh_poll.specs.Poll.{at_stage, goes_at}
+use Rattle.gh_poll.specs.Collecting.{ResumeStage}
 use Rattle.gh_poll.proofs.Marking.Gives.{gives_begin, gives_last, gives_on}
 use Rattle.gh_poll.proofs.Marking.Known.{by_load, by_quiet, Known, stacks_scanned}
 use Rattle.gh_poll.proofs.Marking.Scans.{Comes, scan_begins, scans_last, scans_on}
@@ -31,7 +25,7 @@ module _ (k : Known) (z : Cycle) (a : ℕ) where
 
   module _ (s : Shared) (good : Good z s) (objects : KnowsObjects z s) where
     -- where the world runs
-    scan_facts : (p : Polling) → p.seat ≡ a → IsBetween z a s p.local → p.local.view.phase ≡ run.Mark → (out : Option ℕ) → due z.arena.layout p ≡ out → PollFacts z a s (scans z.arena.layout p out)
+    scan_facts : (p : Polling) → p.seat ≡ a → IsBetween z a s p.local → p.local.view.phase ≡ RunPhase.Mark → (out : Option ℕ) → due z.arena.layout p ≡ out → PollFacts z a s (scans z.arena.layout p out)
     scan_facts p f b on None is = counted_facts s p f b
     scan_facts p f b on (Some g) is = record {
       seat_is = f;
@@ -44,7 +38,7 @@ module _ (k : Known) (z : Cycle) (a : ℕ) where
       own : IsOf z.arena a g
       own = b.stacks.own g scan.there (scan.own ∙ f)
 
-      goes_on : s.words (cell.Scanned g) ≢ END
+      goes_on : s.words (Cell.Scanned g) ≢ END
       goes_on w = scan.going (b.stacks.noted g own ∙ w)
 
     marks_facts : (p : Polling) → p.seat ≡ a → IsBetween z a s p.local → (phase : RunPhase) → p.local.view.phase ≡ phase → PollFacts z a s (marks_then z.arena.layout p phase)
@@ -60,8 +54,8 @@ module _ (k : Known) (z : Cycle) (a : ℕ) where
 
       loads_phase : KnowsNumber z p.local.view → Hands a s (holding_only p.local.held) → Leads LoadPhase
       loads_phase number x =
-          let found = phase_of (s.words cell.Phase) in
-          by_load k z a s good cell.Phase (λ t. PollFacts z a t (goes_at z.arena.layout p LoadPhase (s.words cell.Phase))) (phase_facts found.stops (record { stacks = stacks; number = number; hands = x }) (run_phase found.phase))
+          let found = phase_of (s.words Cell.Phase) in
+          by_load k z a s good Cell.Phase (λ t. PollFacts z a t (goes_at z.arena.layout p LoadPhase (s.words Cell.Phase))) (phase_facts found.stops (record { stacks = stacks; number = number; hands = x }) (run_phase found.phase))
 
       gives : (g : give.Giving) (stops : ℕ) → GiveFacts z a s g → Leads (Giving g stops)
       gives g stops x =
@@ -78,19 +72,19 @@ module _ (k : Known) (z : Cycle) (a : ℕ) where
       still r x none busy = stays s r ((k.go_on z a).stays s) x none busy
 
       resumes : KnowsCycle z s → (r : resume.Resuming) (stage : ResumeStage) → Hands a s nothing → p.local.held ≡ None → is_none (resume.given_at r.view stage) ≡ true → Steps z a s (resume.asks_at r stage) (λ t. PollFacts z a t (after_resume z.arena.layout p (resume.goes_at r stage (s.words (cell_of (resume.asks_at r stage)))) (resume.given (resume.goes_at r stage (s.words (cell_of (resume.asks_at r stage)))))))
-      resumes now r resume_stage.Acknowledge x none busy = by_quiet k z a s good (Store (cell.Ack r.seat) r.stops) nothing (λ t. PollFacts z a t (at_stage p (Resuming (resume.at_stage r resume_stage.LoadPhase)))) tt x (λ t kept h. stays t (resume.at_stage r resume_stage.LoadPhase) kept h none refl)
-      resumes now r resume_stage.LoadPhase x none busy =
-          let to : resume.Resuming = resume.goes_at r resume_stage.LoadPhase (s.words cell.Phase) in
-          let on : resume.given to ≡ None = phase_on r (phase_of (s.words cell.Phase)).stops (run_phase (phase_of (s.words cell.Phase)).phase) in
-          subst (λ (out : Option Resumed). Steps z a s (Load cell.Phase) (λ t. PollFacts z a t (after_resume z.arena.layout p to out))) (sym on) (by_load k z a s good cell.Phase (λ t. PollFacts z a t (at_stage p (Resuming to))) (still to x none (ap is_none on)))
-      resumes now r resume_stage.LoadGeneration x none busy =
-          let n : ℕ = s.words cell.Gen in
-          by_load k z a s good cell.Gen (λ t. PollFacts z a t (at_stage p (Resuming (resume.goes_at r resume_stage.LoadGeneration n)))) (still (resume.goes_at r resume_stage.LoadGeneration n) x none refl)
-      resumes now r resume_stage.LoadBegun x none busy =
-          let out : Resumed = resume.resumed_with r.view (s.words cell.Begun) in
-          by_load k z a s good cell.Begun (λ t. PollFacts z a t (marks_then z.arena.layout (resumed p out) out.view.phase))
+      resumes now r ResumeStage.Acknowledge x none busy = by_quiet k z a s good (Store (Cell.Ack r.seat) r.stops) nothing (λ t. PollFacts z a t (at_stage p (Resuming (resume.at_stage r ResumeStage.LoadPhase)))) tt x (λ t kept h. stays t (resume.at_stage r ResumeStage.LoadPhase) kept h none refl)
+      resumes now r ResumeStage.LoadPhase x none busy =
+          let to : resume.Resuming = resume.goes_at r ResumeStage.LoadPhase (s.words Cell.Phase) in
+          let on : resume.given to ≡ None = phase_on r (phase_of (s.words Cell.Phase)).stops (run_phase (phase_of (s.words Cell.Phase)).phase) in
+          subst (λ (out : Option Resumed). Steps z a s (Load Cell.Phase) (λ t. PollFacts z a t (after_resume z.arena.layout p to out))) (sym on) (by_load k z a s good Cell.Phase (λ t. PollFacts z a t (at_stage p (Resuming to))) (still to x none (ap is_none on)))
+      resumes now r ResumeStage.LoadGeneration x none busy =
+          let n : ℕ = s.words Cell.Gen in
+          by_load k z a s good Cell.Gen (λ t. PollFacts z a t (at_stage p (Resuming (resume.goes_at r ResumeStage.LoadGeneration n)))) (still (resume.goes_at r ResumeStage.LoadGeneration n) x none refl)
+      resumes now r ResumeStage.LoadBegun x none busy =
+          let out : Resumed = resume.resumed_with r.view (s.words Cell.Begun) in
+          by_load k z a s good Cell.Begun (λ t. PollFacts z a t (marks_then z.arena.layout (resumed p out) out.view.phase))
           (marks_facts (resumed p out) seat_is (record { stacks = stacks; number = λ on. now; hands = subst (λ (held : Option Held). Hands a s (holding_only held)) (sym none) x }) out.view.phase refl)
-      resumes now r (resume_stage.Ended another) x none busy = absurd cc
+      resumes now r (ResumeStage.Ended another) x none busy = absurd cc
 
       -- a stack is scanned
       scanned_then : (t : Shared) (g : ℕ) (m : mark.StackMarking) (out : Option (Unit {0})) → p.local.view.begun ≡ z.number → Comes z a s t g m out → PollFacts z a t (after_mark p g m out)
@@ -126,7 +120,7 @@ module _ (k : Known) (z : Cycle) (a : ℕ) where
       polls_at now (Resuming r) x = resumes now r r.stage x.0 x.1 x.2
       polls_at now (Marking g m) x = marks g m x.0 x.1
       polls_at now (FindRoom r) x = finds r x.0 x.1
-      polls_at now Ended x = by_load k z a s good cell.Touch (λ t. PollFacts z a t (at_stage p Ended)) (record { seat_is = seat_is; stacks = stacks; stage_is = x })
+      polls_at now Ended x = by_load k z a s good Cell.Touch (λ t. PollFacts z a t (at_stage p Ended)) (record { seat_is = seat_is; stacks = stacks; stage_is = x })
 
   stage_lasts : (s t : Shared) (waits : Bool) (local : Local) (q : PollStage) → Others z a s t → PollStageFacts z a s waits local q → PollStageFacts z a t waits local q
   stage_lasts s t waits local LoadPhase o x = (x.0, k.last z a s t (holding_only local.held) o x.1)
@@ -140,7 +134,7 @@ module _ (k : Known) (z : Cycle) (a : ℕ) where
   ended_at s waits local q e stacks x = grind arith
 
 module _ (q : WhatPollsRunIsQuiet) (m : MarkingIsQuiet) (z : Cycle) (a i number : ℕ) (s : Shared) where
-  stops_at : (waits : Bool) (local : Local) (p : PollStage) → asks_at p ≡ Store (cell.Ack i) number → PollStageFacts z a s waits local p → Hands a s nothing
+  stops_at : (waits : Bool) (local : Local) (p : PollStage) → asks_at p ≡ Store (Cell.Ack i) number → PollStageFacts z a s waits local p → Hands a s nothing
   stops_at waits local p e x = grind arith
 
 pub polls_by_moves : Known → WhatPollsRunIsQuiet → MarkingIsQuiet → PollsByMoves

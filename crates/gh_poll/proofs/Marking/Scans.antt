@@ -1,27 +1,20 @@
 -- While marking is on, each step of the scan of a stack with its shading is made of moves that its seat may make; the last makes the stack black.
 use Rattle.std.proofs.Common.{◌≡◌, ◌≢◌, ℕ, ◌+◌, ◌-◌, ◌*◌, ◌<◌, ◌≤◌, true, List, Option, Some, None, refl, sym, ap, subst, ◌∙◌, arith}
 use Rattle.std.proofs.Math.Nat.{mod-eq_of_lt}
-use Rattle.gh_base.specs.declared.cell.Cell.TheVariants as cell
-use Rattle.gh_base.specs.declared.pack.TheConstants.{END}
-use Rattle.gh_scan.specs.Listing.{reference_in}
-use Rattle.gh_shade.specs.declared.shade.Shaded.TheVariants as shaded
+use Rattle.gh_poll.proofs.Vocabulary.{by_wish, Cell, cell_of, Cycle, effect, END, goes_on, Good, Hands, Held, holding_only, IsOf, Keeps, KnowsObject, KnowsObjects, landing, LooksForRoom, MarkStackStage, moved, nothing, Others, pending, reference_in, ScanFacts, ScanStack, ScanStageFacts, Shaded, ShadesWish, Shared, StackMarking, StackStage, Steps, Value}
 use Rattle.gh_shade.specs.Facts as shade_facts
 use Rattle.gh_shade.specs.Listing as shade
-use Rattle.gh_stack.specs.declared.scan_stack.StackStage.TheVariants as stack_stage
 use Rattle.gh_stack.specs.Facts as stack_facts
 use Rattle.gh_stack.specs.Listing as stack
 use Rattle.gh_wbuf.specs.Facts as buffer_facts
 use Rattle.gh_wbuf.specs.RoomFinding as room
 use Rattle.gh_poll.specs.declared.mark_stack.MarkStackStage.TheVariants.{Shading, FindRoom, Store, Ended}
-use Rattle.gh_poll.specs.MarkFacts.{LooksForRoom, ScanFacts, ScanStageFacts, ShadesWish, pending}
-use Rattle.gh_poll.specs.MarkStack.{after_room, after_shade, asks, asks_at, by_wish, given, gives, goes, goes_at, goes_on, opening, StackMarking}
-use Rattle.gh_poll.specs.MarkVocabulary.{KnowsObject}
+use Rattle.gh_poll.specs.MarkStack.{after_room, after_shade, asks, asks_at, given, gives, goes, goes_at, opening}
 use Rattle.gh_poll.specs.Stays.{found_on, shaded_on}
-use Rattle.gh_poll.proofs.Vocabulary.{cell_of, Cycle, effect, Good, Hands, Held, holding_only, IsOf, Keeps, KnowsObjects, landing, MarkStackStage, moved, nothing, Others, ScanStack, Shaded, Shared, StackStage, Steps, Value}
 use Rattle.gh_poll.proofs.Marking.Known.{Known}
 use Rattle.gh_poll.proofs.StackMarking.{begins_going, told_going, waits_then}
 
-stores_at : (stage : StackStage) → goes_on stage ≡ true → stack.wish_of stage ≡ None → stage ≡ stack_stage.Store
+stores_at : (stage : StackStage) → goes_on stage ≡ true → stack.wish_of stage ≡ None → stage ≡ StackStage.Store
 stores_at stage e f = grind arith
 
 -- a register names what the scan wishes, and did so before
@@ -31,7 +24,7 @@ named_by s g stage reference e f = grind arith
 -- What a step comes to, by what it gives: the facts of the next stage, or a black stack.
 pub record Scanned (z : Cycle) (a : ℕ) (s t : Shared) (g : ℕ) (held : Option Held) : Type 0 where
   pub own : IsOf z.arena a g
-  pub goes_on : s.words (cell.Scanned g) ≢ END
+  pub goes_on : s.words (Cell.Scanned g) ≢ END
   pub then : t ≡ moved z a s (ScanStack g)
   pub hands : Hands a t (holding_only held)
 
@@ -75,7 +68,7 @@ module _ (k : Known) (z : Cycle) (a : ℕ) (s : Shared) (good : Good z s) (objec
       of = of;
       stage_is = (record { scans = k.stacks.lasts z a s t m.scan kept w.scans; wish = w.wish ∙ ap (λ (r : ℕ). Some r) (sym (k.shade.same sh n)) }, f);
     }
-    shaded_then t sh n well kept w (Some shaded.Done) e f =
+    shaded_then t sh n well kept w (Some Shaded.Done) e f =
         let ended : shade_facts.ObjectIsShaded a t nothing (shade.goes sh n) = k.shade.ends z a t nothing sh n e f in
         let wish : stack.wish_of m.scan.stage ≡ Some (shade.goes sh n).reference = w.wish ∙ ap (λ (r : ℕ). Some r) (sym (k.shade.same sh n)) in
         let told : stack_facts.Facts z a t (stack.told_shaded m.scan) = k.stacks.told z a t m.scan (shade.goes sh n).reference (k.stacks.lasts z a s t m.scan kept w.scans) wish ended.marked in
@@ -84,7 +77,7 @@ module _ (k : Known) (z : Cycle) (a : ℕ) (s : Shared) (good : Good z s) (objec
           of = of;
           stage_is = wishes t (stack.told_shaded m.scan) (shade.goes sh n).held well kept told ended.hands (stack.wish_of (stack.told_shaded m.scan).stage) (told_going m.scan (waits_then m.scan.stage (shade.goes sh n).reference wish)) refl;
         }
-    shaded_then t sh n well kept w (Some shaded.WantsRoom) e f =
+    shaded_then t sh n well kept w (Some Shaded.WantsRoom) e f =
         let waits : shade_facts.WaitsForRoom a t nothing (shade.goes sh n) = k.shade.wants z a t nothing sh n e f in
         let found : buffer_facts.RoomFacts z a t (pending (shade.goes sh n).reference) (room.opening a (shade.goes sh n).held) = (k.buffers.begin z a t (pending (shade.goes sh n).reference) (shade.goes sh n).held waits.hands).finds in
         record {
@@ -121,9 +114,9 @@ module _ (k : Known) (z : Cycle) (a : ℕ) (s : Shared) (good : Good z s) (objec
         (λ t went h. goes_so t _ (found_on m sh (room.goes z.arena.layout r n) (room.gives z.arena.layout r n)) (h.0, found_then t sh r n h.0 w looks (room.gives z.arena.layout r n) refl f h.1))
         (k.buffers.finds.own_step z a s (pending sh.reference) r good objects f)
 
-    stores : stack_facts.Facts z a s m.scan → m.scan.stage ≡ stack_stage.Store → Hands a s (holding_only m.held) → Leads Store
+    stores : stack_facts.Facts z a s m.scan → m.scan.stage ≡ StackStage.Store → Hands a s (holding_only m.held) → Leads Store
     stores f is x = landing z a s (effect s.words (stack.asks m.scan)) (λ t. t ≡ moved z a s (ScanStack m.scan.goroutine)) (λ t. Scanned z a s t g m.held)
-        (λ t went e. record { own = subst (λ (h : ℕ). IsOf z.arena a h) of f.own; goes_on = subst (λ (h : ℕ). s.words (cell.Scanned h) ≢ END) of f.goes_on; then = e ∙ ap (λ (h : ℕ). moved z a s (ScanStack h)) of; hands = subst (λ (u : Shared). Hands a u (holding_only m.held)) (sym e) ((k.follow z a s (holding_only m.held) good x).scanned_stack m.scan.goroutine) })
+        (λ t went e. record { own = subst (λ (h : ℕ). IsOf z.arena a h) of f.own; goes_on = subst (λ (h : ℕ). s.words (Cell.Scanned h) ≢ END) of f.goes_on; then = e ∙ ap (λ (h : ℕ). moved z a s (ScanStack h)) of; hands = subst (λ (u : Shared). Hands a u (holding_only m.held)) (sym e) ((k.follow z a s (holding_only m.held) good x).scanned_stack m.scan.goroutine) })
         (k.stacks.own_step z a s m.scan good f is)
 
     scans_at : (p : MarkStackStage) → ScanStageFacts z a s m.held m.scan p → Leads p

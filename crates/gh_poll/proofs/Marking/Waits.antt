@@ -1,17 +1,11 @@
 -- While marking is on, each step of a wait, and of a leave, is made of moves that its seat may make.
 use Rattle.std.proofs.Common.{◌≡◌, ℕ, Bool, true, false, cond, ltb, Option, refl, arith}
-use Rattle.gh_base.specs.declared.cell.Ask.TheVariants.{Or, Store}
-use Rattle.gh_base.specs.declared.cell.Cell.TheVariants as cell
-use Rattle.gh_base.specs.declared.pack.TheConstants.{GONE}
-use Rattle.gh_poll.specs.declared.leave.LeaveStage.TheVariants as leave_stage
-use Rattle.gh_poll.specs.declared.wait.WaitStage.TheVariants.{Want, Polling, LoadSwept, Ended}
+use Rattle.gh_poll.proofs.Vocabulary.{after_poll, at_stage, Cell, cell_of, Cycle, effect, GiveFacts, GONE, Good, Hands, holding_only, Keeps, KnowsCycle, KnowsObjects, landing, LeaveFacts, LeavesByMoves, LeaveStage, LoadSwept, nothing, Or, Others, PollFacts, polling, PollsByMoves, RestFacts, Shared, stacks_last, Steps, Store, WaitFacts, Waiting, WaitsByMoves, WaitStage, WaitStageFacts, Want, WhatPollsRunIsQuiet}
+use Rattle.gh_poll.specs.declared.wait.WaitStage.TheVariants.{Polling, Ended}
 use Rattle.gh_poll.specs.Give as give
 use Rattle.gh_poll.specs.Leave as leave
-use Rattle.gh_poll.specs.MarkFacts.{GiveFacts, KnowsCycle, LeaveFacts, LeavesByMoves, PollFacts, PollsByMoves, RestFacts, WaitFacts, WaitStageFacts, WaitsByMoves, holding_only, stacks_last}
-use Rattle.gh_poll.specs.MarkVocabulary.{Cycle, Good, Hands, Keeps, KnowsObjects, LeaveStage, Others, Shared, Steps, WaitStage, cell_of, effect, landing, nothing}
 use Rattle.gh_poll.specs.Poll as poll
-use Rattle.gh_poll.specs.Quiet.{WhatPollsRunIsQuiet}
-use Rattle.gh_poll.specs.Wait.{after_poll, asks_at, at_stage, goes_at, is_busy, polling, Waiting}
+use Rattle.gh_poll.specs.Wait.{asks_at, goes_at, is_busy}
 use Rattle.gh_poll.proofs.Marking.Gives.{gives_begin, gives_last, gives_on}
 use Rattle.gh_poll.proofs.Marking.Known.{by_load, by_quiet, Known}
 
@@ -27,7 +21,7 @@ module _ (k : Known) (h : PollsByMoves) (z : Cycle) (a : ℕ) where
     Leads q = Steps z a s (asks_at w q) (λ t. WaitFacts z a t (goes_at z.arena.layout w q (s.words (cell_of (asks_at w q)))))
 
     asks_for_it : RestFacts z a s w.poll → Leads Want
-    asks_for_it r = by_quiet k z a s good (Or cell.Want 1) (holding_only w.poll.local.held) (λ t. WaitFacts z a t (polling w)) tt r.between.hands
+    asks_for_it r = by_quiet k z a s good (Or Cell.Want 1) (holding_only w.poll.local.held) (λ t. WaitFacts z a t (polling w)) tt r.between.hands
         (λ t kept x. h.begins z a t w.poll true (record { seat_is = r.seat_is; between = record { stacks = stacks_last z a s t w.poll.local.stacks w.poll.local.scanned kept r.between.stacks; number = r.between.number; hands = x } }))
 
     polled_then : (t : Shared) (p : poll.Polling) (out : Option (Unit {0})) → poll.given p.stage ≡ out → PollFacts z a t p → WaitFacts z a t (after_poll w p out)
@@ -41,16 +35,16 @@ module _ (k : Known) (h : PollsByMoves) (z : Cycle) (a : ℕ) where
         (h.own_step z a s w.poll good objects now f)
 
     loads_swept : RestFacts z a s w.poll → Leads LoadSwept
-    loads_swept r = by (ltb w.wait.known (s.words cell.Swept)) where
+    loads_swept r = by (ltb w.wait.known (s.words Cell.Swept)) where
       by : (later : Bool) → Steps z a s (asks_at w LoadSwept) (λ t. WaitFacts z a t (cond later (at_stage w Ended) (polling w)))
-      by true = by_load k z a s good cell.Swept (λ t. WaitFacts z a t (at_stage w Ended)) r
-      by false = by_load k z a s good cell.Swept (λ t. WaitFacts z a t (polling w)) (h.begins z a s w.poll true r)
+      by true = by_load k z a s good Cell.Swept (λ t. WaitFacts z a t (at_stage w Ended)) r
+      by false = by_load k z a s good Cell.Swept (λ t. WaitFacts z a t (polling w)) (h.begins z a s w.poll true r)
 
     waits_at : (q : WaitStage) → WaitStageFacts z a s w.poll q → Leads q
     waits_at Want x = asks_for_it x
     waits_at Polling x = polls x
     waits_at LoadSwept x = loads_swept x
-    waits_at Ended x = by_load k z a s good cell.Touch (λ t. WaitFacts z a t (polling w)) (h.begins z a s w.poll true x)
+    waits_at Ended x = by_load k z a s good Cell.Touch (λ t. WaitFacts z a t (polling w)) (h.begins z a s w.poll true x)
 
   stage_lasts : (s t : Shared) (p : poll.Polling) (q : WaitStage) → Others z a s t → WaitStageFacts z a s p q → WaitStageFacts z a t p q
   stage_lasts s t p q o x = grind (arith, rest_lasts)
@@ -58,7 +52,7 @@ module _ (k : Known) (h : PollsByMoves) (z : Cycle) (a : ℕ) where
   ended_at : (s : Shared) (p : poll.Polling) (q : WaitStage) → is_busy q ≡ false → WaitStageFacts z a s p q → RestFacts z a s p
   ended_at s p q e x = grind arith
 
-  stops_at : (i number : ℕ) (s : Shared) (w : Waiting) (q : WaitStage) → asks_at w q ≡ Store (cell.Ack i) number → WaitStageFacts z a s w.poll q → Hands a s nothing
+  stops_at : (i number : ℕ) (s : Shared) (w : Waiting) (q : WaitStage) → asks_at w q ≡ Store (Cell.Ack i) number → WaitStageFacts z a s w.poll q → Hands a s nothing
   stops_at i number s w q e x = grind arith
 
 pub waits_by_moves : Known → PollsByMoves → WaitsByMoves
@@ -76,18 +70,18 @@ module _ (k : Known) (z : Cycle) (a : ℕ) where
   given_facts t g f = grind arith
 
   leaves_at : (s : Shared) → Good z s → KnowsObjects z s → (w : leave.Leaving) (q : LeaveStage) → LeaveFacts z a s q → Steps z a s (leave.asks_at w q) (λ t. Keeps z a s t × LeaveFacts z a t (leave.goes_at w q (s.words (cell_of (leave.asks_at w q)))).stage)
-  leaves_at s good objects w (leave_stage.Giving g) x =
+  leaves_at s good objects w (LeaveStage.Giving g) x =
       let n : ℕ = s.words (cell_of (give.asks g)) in
       landing z a s (effect s.words (give.asks g)) (λ t. Keeps z a s t × GiveFacts z a t (give.goes g n)) (λ t. Keeps z a s t × LeaveFacts z a t (leave.stage_of (give.goes g n))) (λ t went f. (f.0, given_facts t (give.goes g n) f.1)) (gives_on k z a s good objects g x)
-  leaves_at s good objects w leave_stage.Leave x = by_quiet k z a s good (Store (cell.Ack w.seat) GONE) nothing (λ t. Keeps z a s t × Hands a t nothing) tt x (λ t kept y. (kept, y))
-  leaves_at s good objects w leave_stage.Left x = by_load k z a s good cell.Touch (λ t. Keeps z a s t × Hands a t nothing) ((k.go_on z a).stays s, x)
+  leaves_at s good objects w LeaveStage.Leave x = by_quiet k z a s good (Store (Cell.Ack w.seat) GONE) nothing (λ t. Keeps z a s t × Hands a t nothing) tt x (λ t kept y. (kept, y))
+  leaves_at s good objects w LeaveStage.Left x = by_load k z a s good Cell.Touch (λ t. Keeps z a s t × Hands a t nothing) ((k.go_on z a).stays s, x)
 
   leave_lasts : (s t : Shared) (q : LeaveStage) → Others z a s t → LeaveFacts z a s q → LeaveFacts z a t q
-  leave_lasts s t (leave_stage.Giving g) o x = gives_last k z a s t g o x
-  leave_lasts s t leave_stage.Leave o x = k.last z a s t nothing o x
-  leave_lasts s t leave_stage.Left o x = k.last z a s t nothing o x
+  leave_lasts s t (LeaveStage.Giving g) o x = gives_last k z a s t g o x
+  leave_lasts s t LeaveStage.Leave o x = k.last z a s t nothing o x
+  leave_lasts s t LeaveStage.Left o x = k.last z a s t nothing o x
 
-leave_stops : (q : WhatPollsRunIsQuiet) (z : Cycle) (a i number : ℕ) (s : Shared) (w : leave.Leaving) (stage : LeaveStage) → leave.asks_at w stage ≡ Store (cell.Ack i) number → LeaveFacts z a s stage → Hands a s nothing
+leave_stops : (q : WhatPollsRunIsQuiet) (z : Cycle) (a i number : ℕ) (s : Shared) (w : leave.Leaving) (stage : LeaveStage) → leave.asks_at w stage ≡ Store (Cell.Ack i) number → LeaveFacts z a s stage → Hands a s nothing
 leave_stops q z a i number s w stage e x = grind arith
 
 pub leaves_by_moves : Known → WhatPollsRunIsQuiet → LeavesByMoves

@@ -1,24 +1,17 @@
 -- Each step of a poll is one of the handshake of a stop: by its stages.
-use Rattle.std.proofs.Common.{◌≡◌, ℕ, ◌⊎◌, true, false, refl, ap, ◌∙◌, Option, Some, None, arith}
-use Rattle.std.specs.Prelude.{is_none}
-use Rattle.gh_base.specs.declared.cell.Cell.TheVariants as cell
+use Rattle.std.proofs.Common.{◌≡◌, ℕ, ◌⊎◌, true, false, refl, ap, ◌∙◌, Option, Some, None, arith, is_none}
+use Rattle.gh_poll.proofs.Vocabulary.{after_mark, after_resume, after_room, Ask, asks_at, Awake, by_phase, Cell, FindRoom, FromAwake, Gives, GivesSo, giving, GoesOnWithNothing, HasPlaces, Held, is_busy, IsPlace, IsQuietInHandshake, Layout, Load, LoadPhase, Marking, MarkingIsQuiet, marks_then, opening_fine, phase_of, poll_stage_of, poller_at, poller_of, Polling, polls_at, PollsInHandshake, PollsSoundAt, PollStage, Resumed, resumed, Resumes, Resuming, run_phase, RunPhase, SoundPoll, Stage, StageGoes, stops_then, WhatPollsRunIsQuiet}
 use Rattle.gh_phase.specs.declared.resume.ResumeStage.TheVariants.{Acknowledge}
-use Rattle.gh_phase.specs.declared.view.RunPhase.TheVariants as run
-use Rattle.gh_phase.specs.Handshake.{FromAwake, Gives, Resumes, Stage}
 use Rattle.gh_phase.specs.Listing as resume
 use Rattle.gh_phase.specs.ResumePlaces.{ResumesInHandshake}
 use Rattle.gh_phase.specs.ResumePlaces as resumes
 use Rattle.gh_phase.specs.Resumes.{IsStop}
 use Rattle.gh_wbuf.specs.RoomFinding as room
-use Rattle.gh_poll.specs.declared.poll.PollStage.TheVariants.{LoadPhase, Giving, Resuming, Marking, FindRoom, Ended}
-use Rattle.gh_poll.specs.Give.{none_cached}
+use Rattle.gh_poll.specs.declared.poll.PollStage.TheVariants.{Giving, Ended}
 use Rattle.gh_poll.specs.Give as give
-use Rattle.gh_poll.specs.Handshake.{GivesSo, GoesOnWithNothing, HasPlaces, IsPlace, poll_stage_of, poller_at, poller_of, PollsInHandshake, SoundPoll}
 use Rattle.gh_poll.specs.MarkStack as mark
-use Rattle.gh_poll.specs.Poll.{after_mark, after_resume, after_room, asks_at, by_phase, giving, goes, goes_at, is_busy, marks_then, Polling, resumed, stops_then}
-use Rattle.gh_poll.proofs.Vocabulary.{Ask, Awake, Held, IsQuietInHandshake, Layout, Load, MarkingIsQuiet, phase_of, polls_at, PollsSoundAt, PollStage, WhatPollsRunIsQuiet, Resumed, run_phase, RunPhase, StageGoes}
+use Rattle.gh_poll.specs.Poll.{goes, goes_at}
 use Rattle.gh_poll.proofs.Giving.{goes_fine}
-use Rattle.gh_poll.specs.Giving.{opening_fine}
 
 -- it is awake, of the same seat, and knows the same
 record StaysAwake (p to : Polling) : Type 0 where
@@ -46,10 +39,10 @@ stays_awake found ask p to a = record { sound = a.sound; seat = a.seat; party = 
 marks_awake : (l : Layout) (p : Polling) → HasPlaces p.local.cache → (phase : RunPhase) → p.local.view.phase ≡ phase → StaysAwake p (marks_then l p phase)
 marks_awake l p has phase e = record { sound = grind arith; seat = grind arith; party = grind arith; stage = grind arith }
 
-marked_awake : (p : Polling) → HasPlaces p.local.cache → p.local.view.phase ≡ run.Mark → (g : ℕ) (m : mark.StackMarking) (out : Option (Unit {0})) → StaysAwake p (after_mark p g m out)
+marked_awake : (p : Polling) → HasPlaces p.local.cache → p.local.view.phase ≡ RunPhase.Mark → (g : ℕ) (m : mark.StackMarking) (out : Option (Unit {0})) → StaysAwake p (after_mark p g m out)
 marked_awake p has on g m out = grind arith
 
-room_found : (p : Polling) → HasPlaces p.local.cache → p.local.view.phase ≡ run.Mark → (r : room.RoomFinding) (out : Option Held) → StaysAwake p (after_room p r out)
+room_found : (p : Polling) → HasPlaces p.local.cache → p.local.view.phase ≡ RunPhase.Mark → (r : room.RoomFinding) (out : Option Held) → StaysAwake p (after_room p r out)
 room_found p has on r out = grind arith
 
 -- it goes on giving back, or acknowledges with nothing left
@@ -62,14 +55,14 @@ record Stops (p : Polling) (stops : ℕ) (to : Polling) : Type 0 where
 stops_so : (p : Polling) → HasPlaces p.local.cache → (g : give.Giving) (stops : ℕ) → GivesSo g g.stage → Stops p stops (stops_then p g stops)
 stops_so p has g stops fine = grind arith
 
-at_stop : (found stops : ℕ) (stage : Stage) → IsStop found stops → (stage ≡ Gives stops) ⊎ (stage ≡ Resumes stops Acknowledge) → FromAwake found (Load cell.Phase) stage
+at_stop : (found stops : ℕ) (stage : Stage) → IsStop found stops → (stage ≡ Gives stops) ⊎ (stage ≡ Resumes stops Acknowledge) → FromAwake found (Load Cell.Phase) stage
 at_stop found stops stage is h = grind arith
 
-phases : (l : Layout) (found : ℕ) (p : Polling) → HasPlaces p.local.cache → (phase : Option RunPhase) → run_phase (phase_of found).phase ≡ phase → Awakes found (Load cell.Phase) p (by_phase l p (phase_of found).stops phase)
+phases : (l : Layout) (found : ℕ) (p : Polling) → HasPlaces p.local.cache → (phase : Option RunPhase) → run_phase (phase_of found).phase ≡ phase → Awakes found (Load Cell.Phase) p (by_phase l p (phase_of found).stops phase)
 phases l found p has None e =
     let s = stops_so p has (giving p) (phase_of found).stops (opening_fine p.seat p.local.view.generation p.local.cache p.local.held has) in
     record { sound = s.sound; seat = s.seat; party = s.party; leads = at_stop found (phase_of found).stops (poll_stage_of (stops_then p (giving p) (phase_of found).stops)) (record { stops = e; number_is = refl }) s.stage }
-phases l found p has (Some phase) e = stays_awake found (Load cell.Phase) p _ (marks_awake l p has p.local.view.phase refl)
+phases l found p has (Some phase) e = stays_awake found (Load Cell.Phase) p _ (marks_awake l p has p.local.view.phase refl)
 
 awakes : (found : ℕ) (p : Polling) (stage : PollStage) (to : Polling) → poller_at p stage ≡ record { seat = p.seat; view = p.local.view } → polls_at p stage ≡ Awake → IsQuietInHandshake (asks_at stage) → Awakes found (asks_at stage) p to → Goes found p stage to
 awakes found p stage to party awake q a = record { sound = a.sound; seat = a.seat; goes = rw (party, awake) (a.party, q, a.leads) }

@@ -1,13 +1,10 @@
 -- Each step of a wait, and of a leave, is one of the handshake of a stop: by its stages.
 use Rattle.std.proofs.Common.{◌≡◌, ℕ, Bool, true, false, cond, refl, ltb, Option, arith}
-use Rattle.gh_base.specs.declared.layout.Layout.{Layout}
-use Rattle.gh_phase.specs.Handshake.{StageGoes}
-use Rattle.gh_poll.specs.declared.wait.WaitStage.{WaitStage}
-use Rattle.gh_poll.specs.declared.wait.WaitStage.TheVariants.{Want, Polling, LoadSwept, Ended}
-use Rattle.gh_poll.specs.Handshake.{HasPlaces, IsPlace, LeavesInHandshake, PollsInHandshake, PollsOn, SoundWait, wait_stage_of, waiter_at, waiter_of, waits_at, WaitsInHandshake, WaitsSoundAt}
+use Rattle.gh_poll.proofs.Vocabulary.{after_poll, at_stage, HasPlaces, IsPlace, Layout, LeavesInHandshake, LoadSwept, polling, PollsInHandshake, SoundWait, StageGoes, wait_stage_of, waiter_at, waiter_of, Waiting, waits_at, WaitsInHandshake, WaitsSoundAt, WaitStage, Want, WhatPollsRunIsQuiet}
+use Rattle.gh_poll.specs.declared.wait.WaitStage.TheVariants.{Polling, Ended}
+use Rattle.gh_poll.specs.Handshake.{PollsOn}
 use Rattle.gh_poll.specs.Poll as poll
-use Rattle.gh_poll.specs.Quiet.{WhatPollsRunIsQuiet}
-use Rattle.gh_poll.specs.Wait.{after_poll, asks_at, at_stage, goes_at, is_busy, polling, Waiting}
+use Rattle.gh_poll.specs.Wait.{asks_at, goes_at, is_busy}
 
 -- a step at this stage leads here
 record Goes (found : ℕ) (w : Waiting) (stage : WaitStage) (to : Waiting) : Type 0 where

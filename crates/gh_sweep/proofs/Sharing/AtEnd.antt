@@ -1,20 +1,7 @@
 -- What holds at every moment holds where the cycle has ended, and nobody sweeps there.
-use Rattle.std.proofs.Common.{◌≡◌, ◌≢◌, ℕ, zero, suc, ◌+◌, ◌-◌, ◌*◌, ◌/◌, ◌%◌, ◌^◌, ◌<◌, Bool, true, false, not, cond, refl, sym, ap, ◌∙◌, arith, inl, inr}
-use Rattle.std.specs.Prelude.{bit_and, count_ones, ◌||◌}
-use Rattle.std.specs.Int.{bit_at}
+use Rattle.std.proofs.Common.{◌≡◌, ◌≢◌, ℕ, zero, suc, ◌+◌, ◌-◌, ◌*◌, ◌/◌, ◌%◌, ◌^◌, ◌<◌, Bool, true, false, not, cond, refl, sym, ap, ◌∙◌, arith, inl, inr, bit_and, count_ones, ◌||◌}
 use Rattle.std.proofs.lemmas.Bool.{lt-ltb}
-use Rattle.std.proofs.lemmas.Bool.Decides.{eqb_tells}
-use Rattle.std.proofs.lemmas.Nat.{ones_le_self, and_le_l}
-use Rattle.std.proofs.lemmas.Nat.Bits.{bit_at-zero}
-use Rattle.gh_base.specs.declared.cell.Cell.TheVariants as cell
-use Rattle.gh_base.specs.declared.pack.PageWord.{PageWord}
-use Rattle.gh_base.specs.declared.pack.PageWord.TheVariants.{Free, Head, Body}
-use Rattle.gh_base.specs.Cells.{seats_of}
-use Rattle.gh_base.specs.Packing.{page_of}
-use Rattle.gh_base.specs.Rows.{page_words, Row, row_bit, RowsAreWritten}
-use Rattle.gh_sweep.specs.Bits.{sum_below}
-use Rattle.gh_sweep.specs.AtEnd.{at_end, EndsWell, far_in, in_no_span, reaches, some_below}
-use Rattle.gh_sweep.specs.Shared.{alloc_at, bit_words_of, By, cleared_at, CycleEnd, Due, freed_at, generation_of, Good, HasEnded, HeapGood, in_all, InSpan, kept_at, LeftGood, left_uncut, live_at, LiveGood, marks_at, UnclearedMarksStand, nothing_due, owed, SaysFar, TallyGood, view}
+use Rattle.gh_sweep.proofs.Vocabulary.{alloc_at, and_le_l, at_end, bit_at, bit_at-zero, bit_words_of, Body, By, Cell, cleared_at, CycleEnd, Due, EndsWell, eqb_tells, far_in, Free, freed_at, generation_of, Good, HasEnded, Head, HeapGood, in_all, in_no_span, InSpan, kept_at, left_uncut, LeftGood, live_at, LiveGood, marks_at, nothing_due, ones_le_self, owed, page_of, page_words, PageWord, reaches, Row, row_bit, RowsAreWritten, SaysFar, seats_of, some_below, sum_below, TallyGood, UnclearedMarksStand, view}
 use Rattle.gh_sweep.proofs.Sharing.Pages.{unswept_done}
 use Rattle.gh_sweep.proofs.Sharing.Sums.{left_all, sum_zero}
 
@@ -66,7 +53,7 @@ module _ (page : Row) (i : ℕ) where
 
 module _ (rows : RowsAreWritten) (e : CycleEnd) (ended : HasEnded e) where
   abbrev page_at : ℕ → PageWord
-  page_at p = page_of (e.words (cell.Page p))
+  page_at p = page_of (e.words (Cell.Page p))
 
   abbrev flag : ℕ → Bool
   flag i = in_no_span (page_words e.words) i
@@ -117,16 +104,16 @@ module _ (rows : RowsAreWritten) (e : CycleEnd) (ended : HasEnded e) where
   all_left : (each : ℕ → ℕ) → ((i : ℕ) → flag i ≡ true → each i ≡ 0) → left_uncut each flag (bit_words_of e) ≡ in_all e each
   all_left each none = left_all each flag (bit_words_of e) none
 
-  tallied : TallyGood e (e.words cell.Tally) flag (at_end e).due
+  tallied : TallyGood e (e.words Cell.Tally) flag (at_end e).due
   tallied = record {
     marked = omega (arith, all_left (kept_at e) no_kept, owes_none (λ d. d.kept) refl, ended.tally);
     freed = omega (arith, all_left (freed_at e) no_freed, owes_none (λ d. d.freed) refl, ended.tally);
   }
 
-  lives : LiveGood e (e.words cell.Live) flag (at_end e).due
+  lives : LiveGood e (e.words Cell.Live) flag (at_end e).due
   lives = omega (arith, all_left (live_at e) (λ i is. no_bytes (kept_at e i) i (no_kept i is)), owes_none (λ d. d.live) refl, ended.live)
 
-  counted : HeapGood e (e.words cell.Heap) (alloc_at e) e.slot flag (at_end e).due (at_end e).pend
+  counted : HeapGood e (e.words Cell.Heap) (alloc_at e) e.slot flag (at_end e).due (at_end e).pend
   counted =
       let pend : sum_below (λ a. 0) (seats_of e.layout) ≡ 0 = sum_zero (λ a. 0) (seats_of e.layout) (λ a l. refl) in
       let due = owes_none (λ d. d.cleared) refl in

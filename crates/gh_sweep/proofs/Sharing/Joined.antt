@@ -1,13 +1,8 @@
 -- Whole spans have no page in common, and the head of one that is laid out may be laid.
 use Rattle.std.proofs.Common.{◌≡◌, ◌≢◌, ℕ, ◌+◌, ◌-◌, ◌<◌, Bool, true, false, ltb, refl, ap, ◌∙◌, arith, inl, inr}
 use Rattle.std.proofs.lemmas.Bool.{ltb-false, ltb-true}
-use Rattle.gh_base.specs.declared.pack.PageWord.TheVariants.{Head, Body}
-use Rattle.gh_base.specs.Packing.{page_of}
-use Rattle.gh_base.specs.Rows.{Row}
-use Rattle.gh_heap.specs.Spans.{body_at, IsSpan, LaidOut, Laying}
+use Rattle.gh_sweep.proofs.Vocabulary.{ApartGood, AreDisjoint, Body, body_at, Head, IsSpan, LaidOut, Laying, page_of, Row, SpanHead}
 use Rattle.gh_sweep.specs.Joined.{AreWhole, SpansFit}
-use Rattle.gh_sweep.specs.Shared.{ApartGood, AreDisjoint}
-use Rattle.gh_sweep.specs.Vocabulary.{SpanHead}
 
 -- a page within a span, behind its first, has no head
 behind_head : (pages : ℕ) (page : Row) (p q : ℕ) (h g : SpanHead) → IsSpan pages page p h → p < q → q < p + h.pages → page_of (page q) ≢ Head g

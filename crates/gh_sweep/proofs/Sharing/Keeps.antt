@@ -1,15 +1,7 @@
 -- Each move keeps what holds at every moment.
-use Rattle.std.proofs.Common.{◌≡◌, ◌≢◌, ℕ, ◌+◌, ◌*◌, ◌/◌, ◌%◌, ◌^◌, ◌<◌, Bool, true, false, cond, refl, sym, ap, subst, ◌∙◌, arith, inl, inr}
-use Rattle.std.specs.Prelude.{bit_and, bit_or}
+use Rattle.std.proofs.Common.{◌≡◌, ◌≢◌, ℕ, ◌+◌, ◌*◌, ◌/◌, ◌%◌, ◌^◌, ◌<◌, Bool, true, false, cond, refl, sym, ap, subst, ◌∙◌, arith, inl, inr, bit_and, bit_or}
 use Rattle.std.proofs.lemmas.Bool.{lt-ltb, le-ltb}
-use Rattle.std.proofs.lemmas.Bool.Decides.{eqb_tells}
-use Rattle.gh_base.specs.Rows.{Row, RowsAreWritten, with_word}
-use Rattle.gh_heap.specs.Moves.{update}
-use Rattle.gh_sweep.specs.Bits.{freed_in, kept_in}
-use Rattle.gh_sweep.specs.Listing.{bit_words, in_sweep}
-use Rattle.gh_sweep.specs.Moves.{Clears, Counts, Cuts, EachMoveKeeps, Ends, Frees, Lays, May, MayPlace, moved, Passes, Places, Quiet, Starts, Sweeps, TellsHeap, TellsLive, TellsTally, Turns, with_word_cut}
-use Rattle.gh_sweep.specs.Shared.{alloc_at, bit_words_of, By, CycleEnd, Due, generation_of, Good, HasEnded, InSpan, marks_at, OrderGood, Shared, Unswept, UntouchedGood, View, view, DueGood, TallyGood, LiveGood, HeapGood}
-use Rattle.gh_sweep.specs.Vocabulary.{SpanHead}
+use Rattle.gh_sweep.proofs.Vocabulary.{alloc_at, bit_words, bit_words_of, By, Clears, Counts, Cuts, CycleEnd, Due, DueGood, EachMoveKeeps, Ends, eqb_tells, freed_in, Frees, generation_of, Good, HasEnded, HeapGood, in_sweep, InSpan, kept_in, Lays, LiveGood, marks_at, May, MayPlace, moved, OrderGood, Passes, Places, Quiet, Row, RowsAreWritten, Shared, SpanHead, Starts, Sweeps, TallyGood, TellsHeap, TellsLive, TellsTally, Turns, Unswept, UntouchedGood, update, View, view, with_word, with_word_cut}
 use Rattle.gh_sweep.proofs.Bits.{kept_or_freed}
 use Rattle.gh_sweep.proofs.Sharing.KeepsPages.{ends, frees, Known, passes, repaged, starts, turns}
 use Rattle.gh_sweep.proofs.Sharing.Lays.{lays}

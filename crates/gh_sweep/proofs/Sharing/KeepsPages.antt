@@ -1,18 +1,7 @@
 -- The moves on page words keep what holds at every moment.
 use Rattle.std.proofs.Common.{◌≡◌, ◌≢◌, ℕ, ◌+◌, ◌-◌, ◌*◌, ◌^◌, ◌<◌, ◌≤◌, true, false, ltb, refl, sym, ap, subst, ◌∙◌, arith, inl, inr}
 use Rattle.std.proofs.lemmas.Bool.{lt-ltb}
-use Rattle.std.proofs.lemmas.Bool.Decides.{eqb_tells}
-use Rattle.gh_base.specs.declared.pack.PageWord.{PageWord}
-use Rattle.gh_base.specs.declared.pack.PageWord.TheVariants.{Free, Head, Body}
-use Rattle.gh_base.specs.Packing.{FitsHead, head_word, PackedWordsAreReadBack, page_of}
-use Rattle.gh_base.specs.Rows.{Row, with_word}
-use Rattle.gh_class.specs.Classes.{slot_of}
-use Rattle.gh_heap.specs.Moves.{update}
-use Rattle.gh_heap.specs.Spans.{owned_by}
-use Rattle.gh_sweep.specs.Listing.{bit_words, in_sweep, once_swept, slot_bytes}
-use Rattle.gh_sweep.specs.Moves.{HasHead, HasNoAllocBit, IsNoHead}
-use Rattle.gh_sweep.specs.Shared.{ApartGood, By, CycleEnd, Done, DueGood, Far, generation_of, Good, HasEnded, HeadsGood, InsideGood, InSpan, IsHeadIn, IsNumbered, LeftGood, nothing_due, NumbersGood, SaysFar, SlotsGood, Unswept, UntouchedGood, View}
-use Rattle.gh_sweep.specs.Vocabulary.{SpanHead}
+use Rattle.gh_sweep.proofs.Vocabulary.{ApartGood, bit_words, Body, By, CycleEnd, Done, DueGood, eqb_tells, Far, FitsHead, Free, generation_of, Good, HasEnded, HasHead, HasNoAllocBit, Head, head_word, HeadsGood, in_sweep, InsideGood, InSpan, IsHeadIn, IsNoHead, IsNumbered, LeftGood, nothing_due, NumbersGood, once_swept, owned_by, PackedWordsAreReadBack, page_of, PageWord, Row, SaysFar, slot_bytes, slot_of, SlotsGood, SpanHead, Unswept, UntouchedGood, update, View, with_word}
 use Rattle.gh_sweep.proofs.Sharing.Pages.{AreAlike, apart_back, by_done, far_done, far_unswept, gone_back, head_back, head_forth, heads_written, inside_forth, left_forth, no_head_done, numbered, numbers_kept, numbers_written, off_forth, same_by, same_head, slots_back, turn_back, turn_forth, unswept_by, unswept_done, untouched_back}
 
 -- what the packed words and the table of size classes say

@@ -1,14 +1,7 @@
 -- What holds of a sweep lasts under the moves of others; where one may be begun, and that it ends at rest.
 use Rattle.std.proofs.Common.{◌≡◌, ℕ, ◌+◌, true, false, refl, ap, subst, ◌∙◌, arith, inl}
+use Rattle.gh_sweep.proofs.Vocabulary.{Begin, bit_words, By, ClearBits, ClearMarks, CycleEnd, Ended, generation_of, Good, has_span, HasEnded, HasReached, Head, in_sweep, is_busy, IsAtRest, IsOwn, LoadMarks, opening, OthersAt, OthersLeave, page_of, Shared, SpanHead, SpanIsLeft, SpanStays, SweepFacts, Sweeping, SweepKeepsItsFacts, Sweeps, SweepsAmongOthers, SweepStage, view}
 use Rattle.gh_base.specs.declared.cell.Cell.TheVariants.{Page}
-use Rattle.gh_base.specs.declared.pack.PageWord.TheVariants.{Head}
-use Rattle.gh_base.specs.Packing.{page_of}
-use Rattle.gh_sweep.specs.Facts.{OthersAt, SpanStays, SweepKeepsItsFacts}
-use Rattle.gh_sweep.specs.Listing.{bit_words, in_sweep, is_busy, opening, Sweeping}
-use Rattle.gh_sweep.specs.Moves.{OthersLeave, SpanIsLeft, Sweeps}
-use Rattle.gh_sweep.specs.Shared.{By, CycleEnd, generation_of, Good, HasEnded, Shared, view}
-use Rattle.gh_sweep.specs.Sweepers.{has_span, HasReached, IsAtRest, IsOwn, SweepFacts, SweepsAmongOthers}
-use Rattle.gh_sweep.specs.Vocabulary.{Begin, ClearBits, ClearMarks, Ended, LoadMarks, SpanHead, SweepStage}
 use Rattle.gh_sweep.proofs.Sharing.KeepsPages.{Known}
 use Rattle.gh_sweep.proofs.Sharing.Own.{lands}
 

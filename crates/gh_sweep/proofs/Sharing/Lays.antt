@@ -1,15 +1,6 @@
 -- The head of a fresh span is laid: what holds at every moment is kept.
-use Rattle.std.proofs.Common.{◌≡◌, ◌≢◌, ℕ, ◌+◌, ◌*◌, ◌^◌, ◌<◌, ◌≤◌, Bool, true, false, cond, leb, ltb, refl, sym, ap, subst, ◌∙◌, arith, inl, inr, ◌&&◌}
-use Rattle.std.specs.Prelude.{count_ones}
-use Rattle.std.proofs.lemmas.Bool.Decides.{eqb_tells, nat_tests}
-use Rattle.std.proofs.lemmas.Nat.{ones_le_self}
-use Rattle.gh_base.specs.declared.pack.PageWord.TheVariants.{Head}
-use Rattle.gh_base.specs.Packing.{head_word, page_of}
-use Rattle.gh_base.specs.Rows.{Row, with_word}
-use Rattle.gh_sweep.specs.Listing.{slot_bytes}
-use Rattle.gh_sweep.specs.Moves.{MayLay, slots_laid}
-use Rattle.gh_sweep.specs.Shared.{AreDisjoint, ApartGood, bit_words_of, CycleEnd, Done, FewGood, generation_of, Good, HeapGood, InSpan, IsNumbered, placed, placed_behind, placed_in, SlotsGood, UncutGood, UntouchedGood, View}
-use Rattle.gh_sweep.specs.Vocabulary.{SpanHead}
+use Rattle.std.proofs.Common.{◌≡◌, ◌≢◌, ℕ, ◌+◌, ◌*◌, ◌^◌, ◌<◌, ◌≤◌, Bool, true, false, cond, leb, ltb, refl, sym, ap, subst, ◌∙◌, arith, inl, inr, ◌&&◌, count_ones}
+use Rattle.gh_sweep.proofs.Vocabulary.{ApartGood, AreDisjoint, bit_words_of, CycleEnd, Done, eqb_tells, FewGood, generation_of, Good, Head, head_word, HeapGood, InSpan, IsNumbered, MayLay, nat_tests, ones_le_self, page_of, placed, placed_behind, placed_in, Row, slot_bytes, slots_laid, SlotsGood, SpanHead, UncutGood, UntouchedGood, View, with_word}
 use Rattle.gh_sweep.proofs.Bits.{sum_same}
 use Rattle.gh_sweep.proofs.Sharing.KeepsPages.{few_bytes, head_in, Known, reads, says}
 use Rattle.gh_sweep.proofs.Sharing.Pages.{heads_written, inside_forth, left_forth, no_head_done, numbers_kept, off_forth, same_head, unswept_done}

@@ -1,17 +1,6 @@
 -- What a move of one actor leaves to another.
 use Rattle.std.proofs.Common.{◌≡◌, ◌≢◌, ℕ, ◌+◌, ◌*◌, ◌/◌, ◌<◌, ◌⊎◌, Bool, true, refl, sym, ap, ◌∙◌, arith, inl, inr}
-use Rattle.std.proofs.lemmas.Bool.Decides.{eqb_tells}
-use Rattle.gh_base.specs.declared.cell.Cell.TheVariants as cell
-use Rattle.gh_base.specs.declared.pack.PageWord.TheVariants.{Head}
-use Rattle.gh_base.specs.Packing.{FitsHead, head_word, page_of}
-use Rattle.gh_base.specs.Rows.{Row, with_word}
-use Rattle.gh_heap.specs.Moves.{update}
-use Rattle.gh_heap.specs.Spans.{owned_by}
-use Rattle.gh_sweep.specs.Facts.{HasNotNumber}
-use Rattle.gh_sweep.specs.Listing.{bit_words, in_sweep, once_swept}
-use Rattle.gh_sweep.specs.Moves.{Clears, Counts, Cuts, DoneStays, EachMoveLeaves, Ends, Frees, Lays, May, moved, OthersLeave, Passes, Places, Quiet, SpanIsLeft, Starts, TellsHeap, TellsLive, TellsTally, Turns}
-use Rattle.gh_sweep.specs.Shared.{By, CycleEnd, Done, Far, generation_of, Good, HasEnded, InSpan, Shared, Unswept, View, view}
-use Rattle.gh_sweep.specs.Vocabulary.{SpanHead}
+use Rattle.gh_sweep.proofs.Vocabulary.{bit_words, By, Cell, Clears, Counts, Cuts, CycleEnd, Done, DoneStays, EachMoveLeaves, Ends, eqb_tells, Far, FitsHead, Frees, generation_of, Good, HasEnded, HasNotNumber, Head, head_word, in_sweep, InSpan, Lays, May, moved, once_swept, OthersLeave, owned_by, page_of, Passes, Places, Quiet, Row, Shared, SpanHead, SpanIsLeft, Starts, TellsHeap, TellsLive, TellsTally, Turns, Unswept, update, View, view, with_word}
 use Rattle.gh_sweep.proofs.Sharing.KeepsPages.{fits_owned, fits_swept, fits_then, fresh_before, is_done, Known, number_in}
 use Rattle.gh_sweep.proofs.Sharing.Lays as lay
 use Rattle.gh_sweep.proofs.Sharing.Pages.{by_done, far_done, far_unswept, no_head_done, one_span, same_by, unswept_by, unswept_done}
@@ -56,7 +45,7 @@ module _ (e : CycleEnd) (a : ℕ) (s : Shared) (g : Good e (view s)) where
       ne (ap s.far of ∙ by)
 
 -- no word of the span changes
-unchanged : (a p : ℕ) (h : SpanHead) (s t : Shared) → t.far p ≡ By a → t.words (cell.Page p) ≡ s.words (cell.Page p) → t.cut ≡ s.cut → t.clear ≡ s.clear → (view t).alloc ≡ (view s).alloc → (view t).mark ≡ (view s).mark → SpanIsLeft a p h s t
+unchanged : (a p : ℕ) (h : SpanHead) (s t : Shared) → t.far p ≡ By a → t.words (Cell.Page p) ≡ s.words (Cell.Page p) → t.cut ≡ s.cut → t.clear ≡ s.clear → (view t).alloc ≡ (view s).alloc → (view t).mark ≡ (view s).mark → SpanIsLeft a p h s t
 unchanged a p h s t by head cut clear alloc marks = record {
   by = by;
   head = head;

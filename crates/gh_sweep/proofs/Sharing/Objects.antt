@@ -1,10 +1,6 @@
 -- The words of bits where a cycle has ended, as objects.
 use Rattle.std.proofs.Common.{◌≡◌, ℕ, ◌+◌, ◌*◌, ◌<◌, Bool, eqb, ap, ◌∙◌, arith, ◌&&◌, not}
-use Rattle.std.specs.Int.{bit_at}
-use Rattle.gh_base.specs.Rows.{Row, row_bit, RowsAreWritten}
-use Rattle.gh_sweep.specs.AtEnd.{BitsAreObjects, TheBitsAreObjects}
-use Rattle.gh_sweep.specs.Counts.{is_set, marked_objects, unmarked_objects}
-use Rattle.gh_sweep.proofs.Vocabulary.{alloc_at, bit, bit_words_of, CycleEnd, freed_at, HasEnded, in_all, kept_at, marks_at, sum_below}
+use Rattle.gh_sweep.proofs.Vocabulary.{alloc_at, bit, bit_at, bit_words_of, BitsAreObjects, CycleEnd, freed_at, HasEnded, in_all, is_set, kept_at, marked_objects, marks_at, Row, row_bit, RowsAreWritten, sum_below, TheBitsAreObjects, unmarked_objects}
 use Rattle.gh_sweep.proofs.Bits.{freed_bits, kept_bits, sum_of_two, sum_same}
 use Rattle.gh_sweep.proofs.Sweeping.Counts.{bit_is, by_words}
 

@@ -1,13 +1,6 @@
 -- The steps of a sweep among others are moves that it may make, and what holds of it lasts.
 use Rattle.std.proofs.Common.{◌≡◌, ◌≢◌, ℕ, ◌+◌, ◌*◌, ◌%◌, ◌^◌, ◌<◌, Bool, true, false, cond, eqb, ltb, refl, sym, ap, subst, ◌∙◌, arith, inl, inr, bit_and, ◌↔◌, eqb-true, lt-ltb, le-ltb, ltb-false, ltb-true}
-use Rattle.std.proofs.lemmas.Bool.Decides.{eqb_tells, nat_tests}
-use Rattle.std.proofs.Math.Nat.{add-mul}
-use Rattle.gh_base.specs.declared.cell.Cell.TheVariants as cell
-use Rattle.gh_base.specs.Steps.{cell_of, effect}
-use Rattle.gh_heap.specs.Moves.{update}
-use Rattle.gh_sweep.specs.Facts.{Facts, SweepKeepsItsFacts}
-use Rattle.gh_sweep.specs.Steps.{IsInArena}
-use Rattle.gh_sweep.proofs.Vocabulary.{AddHeap, AddLive, AddTally, all_owed, asks, at_stage, Begin, bit_words, By, ClearBits, ClearMarks, Clears, counted, CycleEnd, Done, Due, Ended, Finish, freed_in, goes, Good, HasEnded, Head, head_word, in_sweep, InSpan, is_busy, kept_in, Lands, Load, LoadMarks, Lost, move_at, move_of, moved, negative, page_of, put, Quiet, seats_of, Shared, slot_bytes, SpanHead, Starts, Sweeping, SweepFacts, Sweeps, SweepStage, tally_word, TellsHeap, TellsLive, TellsTally, Unswept, view, with_word_cut, word_at, Words}
+use Rattle.gh_sweep.proofs.Vocabulary.{add-mul, AddHeap, AddLive, AddTally, all_owed, asks, at_stage, Begin, bit_words, By, Cell, cell_of, ClearBits, ClearMarks, Clears, counted, CycleEnd, Done, Due, effect, Ended, eqb_tells, Facts, Finish, freed_in, goes, Good, HasEnded, Head, head_word, in_sweep, InSpan, is_busy, IsInArena, kept_in, Lands, Load, LoadMarks, Lost, move_at, move_of, moved, nat_tests, negative, page_of, put, Quiet, seats_of, Shared, slot_bytes, SpanHead, Starts, SweepFacts, Sweeping, SweepKeepsItsFacts, Sweeps, SweepStage, tally_word, TellsHeap, TellsLive, TellsTally, Unswept, update, view, with_word_cut, word_at, Words}
 use Rattle.gh_sweep.proofs.Sharing.KeepsPages.{fits_then, fresh_before, Known, reads}
 use Rattle.gh_sweep.proofs.Sharing.Pages.{by_done}
 use Rattle.gh_sweep.proofs.Sharing.Sums.{at_entry}
@@ -39,9 +32,9 @@ module _ (k : Known) (laws : SweepKeepsItsFacts) (e : CycleEnd) (ended : HasEnde
   -- The sweep begins, or is lost.
 
   abbrev begun_words : Words
-  begun_words = put s.words (cell.Page p) (head_word (in_sweep h))
+  begun_words = put s.words (Cell.Page p) (head_word (in_sweep h))
 
-  begin_at : SweepFactsAt Begin → (b : Bool) → eqb (s.words (cell.Page p)) (head_word h) ≡ b → Lands e a s (cond b (Starts p h) (Quiet (Load (cell.Page p)))) (cond b begun_words s.words) (λ t. SweepFacts e a t (at_stage m (cond b (LoadMarks 0) (Ended Lost))))
+  begin_at : SweepFactsAt Begin → (b : Bool) → eqb (s.words (Cell.Page p)) (head_word h) ≡ b → Lands e a s (cond b (Starts p h) (Quiet (Load (Cell.Page p)))) (cond b begun_words s.words) (λ t. SweepFacts e a t (at_stage m (cond b (LoadMarks 0) (Ended Lost))))
   begin_at f true is = record {
     may = (head_was, f.number);
     words_are = refl;
@@ -59,7 +52,7 @@ module _ (k : Known) (laws : SweepKeepsItsFacts) (e : CycleEnd) (ended : HasEnde
       };
     };
   } where
-    head_was : page_of (s.words (cell.Page p)) ≡ Head h
+    head_was : page_of (s.words (Cell.Page p)) ≡ Head h
     head_was = ap page_of (eqb-true _ _ is) ∙ reads k h f.placed.head.head
 
     fresh : s.far p ≡ Unswept
@@ -117,25 +110,25 @@ module _ (k : Known) (laws : SweepKeepsItsFacts) (e : CycleEnd) (ended : HasEnde
     at_alloc = at_word i f.placed.arena within
 
     abbrev found : ℕ
-    found = s.words (cell.Alloc (word_at e.layout m i))
+    found = s.words (Cell.Alloc (word_at e.layout m i))
 
-    found_is : s.words (cell.Alloc j) ≡ found
-    found_is = ap (λ (n : ℕ). s.words (cell.Alloc n)) (sym at_alloc)
+    found_is : s.words (Cell.Alloc j) ≡ found
+    found_is = ap (λ (n : ℕ). s.words (Cell.Alloc n)) (sym at_alloc)
 
-    marks_are : s.words (cell.Mark j) ≡ marks
+    marks_are : s.words (Cell.Mark j) ≡ marks
     marks_are = f.facts.1
 
-    words_cut : put s.words (cell.Alloc j) (bit_and (s.words (cell.Alloc j)) (s.words (cell.Mark j))) ≡ put s.words (cell.Alloc (word_at e.layout m i)) (bit_and found marks)
-    words_cut = ap (λ (x : ℕ). put s.words (cell.Alloc j) (bit_and (s.words (cell.Alloc j)) x)) marks_are ∙ ap (λ (n : ℕ). put s.words (cell.Alloc n) (bit_and (s.words (cell.Alloc n)) marks)) (sym at_alloc)
+    words_cut : put s.words (Cell.Alloc j) (bit_and (s.words (Cell.Alloc j)) (s.words (Cell.Mark j))) ≡ put s.words (Cell.Alloc (word_at e.layout m i)) (bit_and found marks)
+    words_cut = ap (λ (x : ℕ). put s.words (Cell.Alloc j) (bit_and (s.words (Cell.Alloc j)) x)) marks_are ∙ ap (λ (n : ℕ). put s.words (Cell.Alloc n) (bit_and (s.words (Cell.Alloc n)) marks)) (sym at_alloc)
 
     slot_is : s.slot j ≡ slot_bytes h
     slot_is = let l = within in g.slots j (record { p = p; h = in_sweep h; head = f.is_at.head; from = omega arith; below = omega arith })
 
-    kept_is : kept_in (s.words (cell.Alloc j)) (s.words (cell.Mark j)) ≡ kept_in found marks
-    kept_is = ap (λ (x : ℕ). kept_in x (s.words (cell.Mark j))) found_is ∙ ap (λ (x : ℕ). kept_in found x) marks_are
+    kept_is : kept_in (s.words (Cell.Alloc j)) (s.words (Cell.Mark j)) ≡ kept_in found marks
+    kept_is = ap (λ (x : ℕ). kept_in x (s.words (Cell.Mark j))) found_is ∙ ap (λ (x : ℕ). kept_in found x) marks_are
 
-    freed_is : freed_in (s.words (cell.Alloc j)) (s.words (cell.Mark j)) ≡ freed_in found marks
-    freed_is = ap (λ (x : ℕ). freed_in x (s.words (cell.Mark j))) found_is ∙ ap (λ (x : ℕ). freed_in found x) marks_are
+    freed_is : freed_in (s.words (Cell.Alloc j)) (s.words (Cell.Mark j)) ≡ freed_in found marks
+    freed_is = ap (λ (x : ℕ). freed_in x (s.words (Cell.Mark j))) found_is ∙ ap (λ (x : ℕ). freed_in found x) marks_are
 
     bytes_are : (n more now : ℕ) → more ≡ now → n * slot_bytes h + more * s.slot j ≡ (n + now) * slot_bytes h
     bytes_are n more now is =
@@ -143,7 +136,7 @@ module _ (k : Known) (laws : SweepKeepsItsFacts) (e : CycleEnd) (ended : HasEnde
         omega (arith, product, add-mul n now (slot_bytes h))
 
     abbrev due_then : Due
-    due_then = with_word_cut (s.due a) (kept_in (s.words (cell.Alloc j)) (s.words (cell.Mark j))) (freed_in (s.words (cell.Alloc j)) (s.words (cell.Mark j))) (s.slot j)
+    due_then = with_word_cut (s.due a) (kept_in (s.words (Cell.Alloc j)) (s.words (Cell.Mark j))) (freed_in (s.words (Cell.Alloc j)) (s.words (Cell.Mark j))) (s.slot j)
 
     owes_then : due_then ≡ all_owed (counted m i marks found)
     owes_then = grind (arith, bytes_are, freed_is, kept_is, same_due)
@@ -173,8 +166,8 @@ module _ (k : Known) (laws : SweepKeepsItsFacts) (e : CycleEnd) (ended : HasEnde
     at_marks : word_at e.layout m i ≡ here i
     at_marks = at_word i f.placed.arena f.placed.stage
 
-    words_cleared : put s.words (cell.Mark (here i)) 0 ≡ put s.words (cell.Mark (word_at e.layout m i)) 0
-    words_cleared = ap (λ (n : ℕ). put s.words (cell.Mark n) 0) (sym at_marks)
+    words_cleared : put s.words (Cell.Mark (here i)) 0 ≡ put s.words (Cell.Mark (word_at e.layout m i)) 0
+    words_cleared = ap (λ (n : ℕ). put s.words (Cell.Mark n) 0) (sym at_marks)
 
     clear_then : (x : ℕ) → x < bit_words h → update s.clear (here i) true (here x) ≡ ltb x (i + 1)
     clear_then x l = elim (eqb_tells (here i) (here x)) [
@@ -231,7 +224,7 @@ module _ (k : Known) (laws : SweepKeepsItsFacts) (e : CycleEnd) (ended : HasEnde
     };
   } where
     words_told : (moved a s TellsTally).words ≡ effect s.words (asks e.layout (at_stage m AddTally))
-    words_told = ap (λ (d : Due). put s.words cell.Tally ((s.words cell.Tally + tally_word (record { marked = d.kept; freed = d.freed })) % 2 ^ 64)) f.due
+    words_told = ap (λ (d : Due). put s.words Cell.Tally ((s.words Cell.Tally + tally_word (record { marked = d.kept; freed = d.freed })) % 2 ^ 64)) f.due
 
   live_lands : SweepFactsAt AddLive → LandsAt AddLive
   live_lands f = record {
@@ -247,7 +240,7 @@ module _ (k : Known) (laws : SweepKeepsItsFacts) (e : CycleEnd) (ended : HasEnde
     };
   } where
     words_told : (moved a s TellsLive).words ≡ effect s.words (asks e.layout (at_stage m AddLive))
-    words_told = ap (λ (d : Due). put s.words cell.Live ((s.words cell.Live + d.live) % 2 ^ 64)) f.due
+    words_told = ap (λ (d : Due). put s.words Cell.Live ((s.words Cell.Live + d.live) % 2 ^ 64)) f.due
 
   heap_lands : SweepFactsAt AddHeap → LandsAt AddHeap
   heap_lands f = record {
@@ -263,7 +256,7 @@ module _ (k : Known) (laws : SweepKeepsItsFacts) (e : CycleEnd) (ended : HasEnde
     };
   } where
     words_told : (moved a s TellsHeap).words ≡ effect s.words (asks e.layout (at_stage m AddHeap))
-    words_told = ap (λ (d : Due). put s.words cell.Heap ((s.words cell.Heap + negative d.cleared) % 2 ^ 64)) f.due
+    words_told = ap (λ (d : Due). put s.words Cell.Heap ((s.words Cell.Heap + negative d.cleared) % 2 ^ 64)) f.due
 
   -- The sweep ends.
 

@@ -1,14 +1,6 @@
 -- A page word changes: what is said of spans, and of the words of bits that lie in them.
 use Rattle.std.proofs.Common.{◌≡◌, ◌≢◌, ℕ, ◌+◌, ◌*◌, ◌<◌, ◌≤◌, Bool, true, false, refl, sym, ap, subst, ◌∙◌, arith, inl, inr}
-use Rattle.std.proofs.lemmas.Bool.Decides.{eqb_tells}
-use Rattle.gh_base.specs.declared.pack.PageWord.{PageWord}
-use Rattle.gh_base.specs.declared.pack.PageWord.TheVariants.{Head}
-use Rattle.gh_base.specs.declared.pack.SpanHead.{SpanHead}
-use Rattle.gh_base.specs.Packing.{page_of}
-use Rattle.gh_base.specs.Rows.{Row, with_word}
-use Rattle.gh_heap.specs.Moves.{update}
-use Rattle.gh_sweep.specs.Listing.{slot_bytes}
-use Rattle.gh_sweep.specs.Shared.{ApartGood, By, Done, Far, HeadsGood, InSpan, InsideGood, IsHeadIn, IsNumbered, LeftGood, NumbersGood, SaysFar, SlotsGood, Unswept, UntouchedGood}
+use Rattle.gh_sweep.proofs.Vocabulary.{ApartGood, By, Done, eqb_tells, Far, Head, HeadsGood, InsideGood, InSpan, IsHeadIn, IsNumbered, LeftGood, NumbersGood, page_of, PageWord, Row, SaysFar, slot_bytes, SlotsGood, SpanHead, Unswept, UntouchedGood, update, with_word}
 use Rattle.gh_sweep.proofs.Sharing.Sums.{off_entry}
 
 pub same_head : (h g : SpanHead) → Head h ≡ Head g → h ≡ g

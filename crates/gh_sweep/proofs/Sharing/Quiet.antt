@@ -1,9 +1,6 @@
 -- A step that changes no word of which anything is said.
 use Rattle.std.proofs.Common.{◌≡◌, ℕ, arith}
-use Rattle.gh_base.specs.Steps.{effect}
-use Rattle.gh_sweep.specs.Moves.{ChangesNothing, IsBesideSweeps}
-use Rattle.gh_sweep.specs.Shared.{Shared, view}
-use Rattle.gh_sweep.specs.Vocabulary.{Ask, Cell, put, Words}
+use Rattle.gh_sweep.proofs.Vocabulary.{Ask, Cell, ChangesNothing, effect, IsBesideSweeps, put, Shared, view, Words}
 
 abbrev pub with_words : Shared → Words → Shared
 with_words s w = record s { words = w }

@@ -1,15 +1,6 @@
 -- A word of alloc bits is cut to its marks, or one bit of it is set: what is said of objects by their bits.
-use Rattle.std.proofs.Common.{◌≡◌, ℕ, ◌+◌, ◌/◌, ◌%◌, ◌^◌, ◌<◌, min, Bool, true, false, refl, sym, ap, subst, ◌∙◌, arith, inl, inr}
-use Rattle.std.specs.Prelude.{bit_and, bit_or, count_ones}
-use Rattle.std.specs.Int.{bit_at}
-use Rattle.std.proofs.lemmas.Bool.Decides.{eqb_tells}
-use Rattle.std.proofs.lemmas.Nat.{and_le_l, or_lt, pow_below}
-use Rattle.std.proofs.lemmas.Nat.Bits.{bit_at_and, bit_at_or, bit_at-lt, bit_at-pow_other, bit_at-pow_same}
-use Rattle.gh_base.specs.Rows.{Row, row_bit, RowsAreWritten, with_word}
-use Rattle.gh_heap.specs.Moves.{update}
-use Rattle.gh_sweep.specs.Bits.{sum_below}
-use Rattle.gh_sweep.specs.Counts.{AreWords}
-use Rattle.gh_sweep.specs.Shared.{KnownGood, SinceGood, StandGood, UncutGood}
+use Rattle.std.proofs.Common.{◌≡◌, ℕ, ◌+◌, ◌/◌, ◌%◌, ◌^◌, ◌<◌, min, Bool, true, false, refl, sym, ap, subst, ◌∙◌, arith, inl, inr, bit_and, bit_or, count_ones}
+use Rattle.gh_sweep.proofs.Vocabulary.{and_le_l, AreWords, bit_at, bit_at-lt, bit_at-pow_other, bit_at-pow_same, bit_at_and, bit_at_or, eqb_tells, KnownGood, or_lt, pow_below, Row, row_bit, RowsAreWritten, SinceGood, StandGood, sum_below, UncutGood, update, with_word}
 use Rattle.gh_sweep.proofs.Bits.{set_bits}
 use Rattle.gh_sweep.proofs.Sharing.Sums.{off_entry, sum_at}
 

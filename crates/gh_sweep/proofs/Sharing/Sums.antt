@@ -1,13 +1,7 @@
 -- Sums of which one term changes, and how great they can be.
-use Rattle.std.proofs.Common.{◌≡◌, ◌≢◌, ℕ, zero, suc, ◌+◌, ◌*◌, ◌^◌, ◌<◌, ◌≤◌, Bool, true, false, cond, refl, sym, ap, ◌∙◌, arith, inl, inr}
-use Rattle.std.specs.Prelude.{count_ones}
-use Rattle.std.proofs.lemmas.Bool.Decides.{eqb_tells}
-use Rattle.std.proofs.lemmas.Nat.{ones-le}
+use Rattle.std.proofs.Common.{◌≡◌, ◌≢◌, ℕ, zero, suc, ◌+◌, ◌*◌, ◌^◌, ◌<◌, ◌≤◌, Bool, true, false, cond, refl, sym, ap, ◌∙◌, arith, inl, inr, count_ones}
 use Rattle.std.proofs.lemmas.Nat.{mul-le}
-use Rattle.gh_base.specs.Rows.{Row, with_word}
-use Rattle.gh_heap.specs.Moves.{update}
-use Rattle.gh_sweep.specs.Bits.{sum_below}
-use Rattle.gh_sweep.specs.Shared.{Due, left_uncut, owed, placed, placed_behind, placed_in}
+use Rattle.gh_sweep.proofs.Vocabulary.{Due, eqb_tells, left_uncut, ones-le, owed, placed, placed_behind, placed_in, Row, sum_below, update, with_word}
 use Rattle.gh_sweep.proofs.Bits.{sum_more, sum_none, sum_same}
 
 -- an entry of a row of which one changed

@@ -1,18 +1,7 @@
 -- The counts: what a word that is cut, a count that is told and an object that is placed change of them.
-use Rattle.std.proofs.Common.{◌≡◌, ℕ, ◌+◌, ◌-◌, ◌*◌, ◌%◌, ◌^◌, ◌<◌, ◌≤◌, Bool, true, false, cond, sym, ap, ◌∙◌, arith}
-use Rattle.std.specs.Prelude.{bit_and, count_ones}
-use Rattle.std.proofs.lemmas.Nat.{and_le_l, ones-le}
-use Rattle.std.proofs.Math.Nat.{add-mul}
+use Rattle.std.proofs.Common.{◌≡◌, ℕ, ◌+◌, ◌-◌, ◌*◌, ◌%◌, ◌^◌, ◌<◌, ◌≤◌, Bool, true, false, cond, sym, ap, ◌∙◌, arith, bit_and, count_ones}
+use Rattle.gh_sweep.proofs.Vocabulary.{add-mul, alloc_at, and_le_l, AreWords, bit_words_of, cleared_at, CycleEnd, Due, FewGood, freed_at, HasEnded, HeapGood, in_all, kept_at, live_at, LiveGood, marks_at, negative, ones-le, owed, placed, placed_behind, placed_in, Row, seats_of, sum_below, tally_word, TallyGood, update, with_word, with_word_cut}
 use Rattle.gh_base.specs.declared.limits.TheConstants.{MOST_PAGES}
-use Rattle.gh_base.specs.Cells.{seats_of}
-use Rattle.gh_base.specs.Packing.{tally_word}
-use Rattle.gh_base.specs.Rows.{Row, with_word}
-use Rattle.gh_heap.specs.Moves.{update}
-use Rattle.gh_sweep.specs.Bits.{sum_below}
-use Rattle.gh_sweep.specs.Counts.{AreWords}
-use Rattle.gh_sweep.specs.Listing.{negative}
-use Rattle.gh_sweep.specs.Moves.{with_word_cut}
-use Rattle.gh_sweep.specs.Shared.{alloc_at, bit_words_of, cleared_at, CycleEnd, Due, freed_at, FewGood, HasEnded, HeapGood, in_all, kept_at, LiveGood, live_at, marks_at, owed, placed, placed_behind, placed_in, TallyGood}
 use Rattle.gh_sweep.proofs.Sharing.Sums.{at_entry, behind_at, behind_cut_at, bytes_few, left_at, off_entry, owed_at, placed_at, sum_at, sum_few, sum_least}
 
 -- How great the counts are.

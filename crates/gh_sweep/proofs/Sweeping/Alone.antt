@@ -1,23 +1,11 @@
 -- A sweep that runs alone: its words after each word of the span's bits, and at its end.
-use Rattle.std.proofs.Common.{◌≡◌, ◌≢◌, ℕ, zero, suc, ◌+◌, ◌*◌, ◌/◌, ◌%◌, ◌^◌, ◌<◌, ◌≤◌, ◌↔◌, Bool, true, false, eqb, Some, refl, sym, ap, subst, ◌∙◌, arith, inl, inr}
-use Rattle.std.specs.Prelude.{bit_and, min}
-use Rattle.std.specs.Int.{bit_at}
-use Rattle.std.proofs.lemmas.Nat.Bits.{bit_at_and}
-use Rattle.gh_base.specs.declared.cell.Cell.TheVariants as cell
-use Rattle.gh_base.specs.Packing.{head_word}
-use Rattle.gh_base.specs.Machines.{steps_of}
-use Rattle.gh_base.specs.Routines.{Leaves}
-use Rattle.gh_base.specs.Rows.{alloc_bit, alloc_words, CellsAreTold, mark_bit, mark_words, row_bit, RowsAreWritten}
-use Rattle.gh_base.specs.Steps.{cell_of, effect}
+use Rattle.std.proofs.Common.{◌≡◌, ◌≢◌, ℕ, zero, suc, ◌+◌, ◌*◌, ◌/◌, ◌%◌, ◌^◌, ◌<◌, ◌≤◌, ◌↔◌, Bool, true, false, eqb, Some, refl, sym, ap, subst, ◌∙◌, arith, inl, inr, bit_and, min}
+use Rattle.gh_sweep.proofs.Vocabulary.{after, alloc_bit, alloc_words, And, AreTold, Ask, asks, bit_at, bit_at_and, bit_words, Cell, cell_of, CellsAreTold, effect, freed, gives, goes, head_word, in_sweep, is_busy, IsBegun, IsInArena, kept, Layout, Leaves, listing, mark_bit, mark_words, marks_told, negative, once_swept, put, row_bit, RowsAreWritten, slot_bytes, span_of, SpanHead, steps_of, steps_on_bits, Store, Sweeping, SweepsAsTold, Swept, Words}
 use Rattle.gh_sweep.specs.Alone.{alone, found_alone, from, IsOther, IsSwept, objects_freed, objects_kept, SweepsSpan}
-use Rattle.gh_sweep.specs.Counts.{AreTold}
-use Rattle.gh_sweep.specs.Listing.{asks, bit_words, gives, goes, in_sweep, is_busy, listing, negative, once_swept, slot_bytes, Sweeping}
-use Rattle.gh_sweep.specs.Steps.{after, freed, IsBegun, IsInArena, kept, marks_told, span_of, steps_on_bits, SweepsAsTold}
-use Rattle.gh_sweep.specs.Vocabulary.{And, Ask, Cell, Layout, put, SpanHead, Store, Swept, Words}
 use Rattle.gh_sweep.proofs.Sweeping.Counts.{freed_counted, kept_counted}
 use Rattle.gh_sweep.proofs.Sweeping.Steps.{takes_its_steps}
 
-module _ (cells : CellsAreTold) (rows : RowsAreWritten) (l : Layout) (page : ℕ) (head : SpanHead) (before : Words) (arena : IsInArena l page head) (fits : (c : Cell) → before c < 2 ^ 64) (begun : before (cell.Page page) ≡ head_word head) where
+module _ (cells : CellsAreTold) (rows : RowsAreWritten) (l : Layout) (page : ℕ) (head : SpanHead) (before : Words) (arena : IsInArena l page head) (fits : (c : Cell) → before c < 2 ^ 64) (begun : before (Cell.Page page) ≡ head_word head) where
   abbrev found : ℕ → ℕ
   found = found_alone l page head before
 
@@ -53,29 +41,29 @@ module _ (cells : CellsAreTold) (rows : RowsAreWritten) (l : Layout) (page : ℕ
 
   -- the first so many words of the span's bits are swept, and nothing else is changed but the head
   record Done (i : ℕ) (ws : Words) : Type 0 where
-    head_is : ws (cell.Page page) ≡ head_word (in_sweep head)
-    cut : (j : ℕ) → j < i → ws (cell.Alloc (16 * page + j)) ≡ bit_and (before (cell.Alloc (16 * page + j))) (before (cell.Mark (16 * page + j)))
-    uncut : (j : ℕ) → i ≤ j → ws (cell.Alloc (16 * page + j)) ≡ before (cell.Alloc (16 * page + j))
-    cleared : (j : ℕ) → j < i → ws (cell.Mark (16 * page + j)) ≡ 0
-    marked : (j : ℕ) → i ≤ j → ws (cell.Mark (16 * page + j)) ≡ before (cell.Mark (16 * page + j))
-    tally : ws cell.Tally ≡ before cell.Tally
-    live : ws cell.Live ≡ before cell.Live
-    heap : ws cell.Heap ≡ before cell.Heap
+    head_is : ws (Cell.Page page) ≡ head_word (in_sweep head)
+    cut : (j : ℕ) → j < i → ws (Cell.Alloc (16 * page + j)) ≡ bit_and (before (Cell.Alloc (16 * page + j))) (before (Cell.Mark (16 * page + j)))
+    uncut : (j : ℕ) → i ≤ j → ws (Cell.Alloc (16 * page + j)) ≡ before (Cell.Alloc (16 * page + j))
+    cleared : (j : ℕ) → j < i → ws (Cell.Mark (16 * page + j)) ≡ 0
+    marked : (j : ℕ) → i ≤ j → ws (Cell.Mark (16 * page + j)) ≡ before (Cell.Mark (16 * page + j))
+    tally : ws Cell.Tally ≡ before Cell.Tally
+    live : ws Cell.Live ≡ before Cell.Live
+    heap : ws Cell.Heap ≡ before Cell.Heap
     others : (c : Cell) → IsOther l page head before c → ws c ≡ before c
 
   -- the swap writes
-  swapped : words 1 ≡ put before (cell.Page page) (head_word (in_sweep head))
+  swapped : words 1 ≡ put before (Cell.Page page) (head_word (in_sweep head))
   swapped = grind arith
 
-  none_done : Done 0 (put before (cell.Page page) (head_word (in_sweep head)))
+  none_done : Done 0 (put before (Cell.Page page) (head_word (in_sweep head)))
   none_done = grind arith
 
   module _ (i : ℕ) (lt : i < bits) (ws : Words) (done : Done i ws) where
     abbrev alloc_here : Cell
-    alloc_here = cell.Alloc (16 * page + i)
+    alloc_here = Cell.Alloc (16 * page + i)
 
     abbrev mark_here : Cell
-    mark_here = cell.Mark (16 * page + i)
+    mark_here = Cell.Mark (16 * page + i)
 
     abbrev with_cut : Words
     with_cut = put ws alloc_here (bit_and (ws alloc_here) (before mark_here))
@@ -86,33 +74,33 @@ module _ (cells : CellsAreTold) (rows : RowsAreWritten) (l : Layout) (page : ℕ
     stay : (c : Cell) → alloc_here ≢ c → mark_here ≢ c → with_both c ≡ ws c
     stay c a m = cells.put_elsewhere with_cut mark_here c 0 m ∙ cells.put_elsewhere ws alloc_here c (bit_and (ws alloc_here) (before mark_here)) a
 
-    other_alloc : (j : ℕ) → i ≢ j → with_both (cell.Alloc (16 * page + j)) ≡ ws (cell.Alloc (16 * page + j))
-    other_alloc j ne = stay (cell.Alloc (16 * page + j)) (λ e. absurd (let same : 16 * page + i ≡ 16 * page + j = cc in ne (omega arith))) (λ e. absurd (cc))
+    other_alloc : (j : ℕ) → i ≢ j → with_both (Cell.Alloc (16 * page + j)) ≡ ws (Cell.Alloc (16 * page + j))
+    other_alloc j ne = stay (Cell.Alloc (16 * page + j)) (λ e. absurd (let same : 16 * page + i ≡ 16 * page + j = cc in ne (omega arith))) (λ e. absurd (cc))
 
-    other_mark : (j : ℕ) → i ≢ j → with_both (cell.Mark (16 * page + j)) ≡ ws (cell.Mark (16 * page + j))
-    other_mark j ne = stay (cell.Mark (16 * page + j)) (λ e. absurd (cc)) (λ e. absurd (let same : 16 * page + i ≡ 16 * page + j = cc in ne (omega arith)))
+    other_mark : (j : ℕ) → i ≢ j → with_both (Cell.Mark (16 * page + j)) ≡ ws (Cell.Mark (16 * page + j))
+    other_mark j ne = stay (Cell.Mark (16 * page + j)) (λ e. absurd (cc)) (λ e. absurd (let same : 16 * page + i ≡ 16 * page + j = cc in ne (omega arith)))
 
     cut_here : with_both alloc_here ≡ bit_and (before alloc_here) (before mark_here)
     cut_here =
         cells.put_elsewhere with_cut mark_here alloc_here 0 (λ e. absurd (cc)) ∙ cells.put_here ws alloc_here (bit_and (ws alloc_here) (before mark_here))
         ∙ ap (λ (n : ℕ). bit_and n (before mark_here)) (done.uncut i (omega arith))
 
-    cut_more : (j : ℕ) → j < suc i → (b : Bool) → eqb i j ≡ b → with_both (cell.Alloc (16 * page + j)) ≡ bit_and (before (cell.Alloc (16 * page + j))) (before (cell.Mark (16 * page + j)))
+    cut_more : (j : ℕ) → j < suc i → (b : Bool) → eqb i j ≡ b → with_both (Cell.Alloc (16 * page + j)) ≡ bit_and (before (Cell.Alloc (16 * page + j))) (before (Cell.Mark (16 * page + j)))
     cut_more j below b e = grind (arith, cut_here, other_alloc)
 
-    cleared_more : (j : ℕ) → j < suc i → (b : Bool) → eqb i j ≡ b → with_both (cell.Mark (16 * page + j)) ≡ 0
+    cleared_more : (j : ℕ) → j < suc i → (b : Bool) → eqb i j ≡ b → with_both (Cell.Mark (16 * page + j)) ≡ 0
     cleared_more j below b e = grind arith
 
     next_done : Done (suc i) with_both
     next_done = record {
-      head_is = stay (cell.Page page) (λ e. absurd (cc)) (λ e. absurd (cc)) ∙ done.head_is;
+      head_is = stay (Cell.Page page) (λ e. absurd (cc)) (λ e. absurd (cc)) ∙ done.head_is;
       cut = λ j below. cut_more j below _ refl;
       uncut = λ j ge. other_alloc j (λ e. absurd (omega arith)) ∙ done.uncut j (omega arith);
       cleared = λ j below. cleared_more j below _ refl;
       marked = λ j ge. other_mark j (λ e. absurd (omega arith)) ∙ done.marked j (omega arith);
-      tally = stay cell.Tally (λ e. absurd (cc)) (λ e. absurd (cc)) ∙ done.tally;
-      live = stay cell.Live (λ e. absurd (cc)) (λ e. absurd (cc)) ∙ done.live;
-      heap = stay cell.Heap (λ e. absurd (cc)) (λ e. absurd (cc)) ∙ done.heap;
+      tally = stay Cell.Tally (λ e. absurd (cc)) (λ e. absurd (cc)) ∙ done.tally;
+      live = stay Cell.Live (λ e. absurd (cc)) (λ e. absurd (cc)) ∙ done.live;
+      heap = stay Cell.Heap (λ e. absurd (cc)) (λ e. absurd (cc)) ∙ done.heap;
       others = λ c o. stay c (λ e. o.alloc i lt (sym e)) (λ e. o.mark i lt (sym e)) ∙ done.others c o;
     }
 
@@ -121,25 +109,25 @@ module _ (cells : CellsAreTold) (rows : RowsAreWritten) (l : Layout) (page : ℕ
 
   -- the three steps on a word
   module _ (i : ℕ) (lt : i < bits) (done : Done i (words (1 + 3 * i))) where
-    finds_marks : found (1 + 3 * i) ≡ before (cell.Mark (16 * page + i))
+    finds_marks : found (1 + 3 * i) ≡ before (Cell.Mark (16 * page + i))
     finds_marks = finds (1 + 3 * i) _ (steps.on_words begins i lt).loads_marks ∙ done.marked i (omega arith)
 
     loaded : words (2 + 3 * i) ≡ words (1 + 3 * i)
     loaded = let next : 2 + 3 * i ≡ suc (1 + 3 * i) = omega arith in ap words next ∙ next_words (1 + 3 * i) _ (steps.on_words begins i lt).loads_marks
 
-    finds_alloc : found (2 + 3 * i) ≡ before (cell.Alloc (16 * page + i))
-    finds_alloc = finds (2 + 3 * i) _ (steps.on_words begins i lt).clears_bits ∙ ap (λ (ws : Words). ws (cell.Alloc (16 * page + i))) loaded ∙ done.uncut i (omega arith)
+    finds_alloc : found (2 + 3 * i) ≡ before (Cell.Alloc (16 * page + i))
+    finds_alloc = finds (2 + 3 * i) _ (steps.on_words begins i lt).clears_bits ∙ ap (λ (ws : Words). ws (Cell.Alloc (16 * page + i))) loaded ∙ done.uncut i (omega arith)
 
     has_cut : words (3 + 3 * i) ≡ with_cut i lt (words (1 + 3 * i)) done
     has_cut =
         let next : 3 + 3 * i ≡ suc (2 + 3 * i) = omega arith in
         ap words next ∙ next_words (2 + 3 * i) _ (steps.on_words begins i lt).clears_bits
-        ∙ ap (λ (ws : Words). effect ws (And (cell.Alloc (16 * page + i)) (marks_told found i))) loaded ∙ ap (λ (m : ℕ). effect (words (1 + 3 * i)) (And (cell.Alloc (16 * page + i)) m)) finds_marks
+        ∙ ap (λ (ws : Words). effect ws (And (Cell.Alloc (16 * page + i)) (marks_told found i))) loaded ∙ ap (λ (m : ℕ). effect (words (1 + 3 * i)) (And (Cell.Alloc (16 * page + i)) m)) finds_marks
 
     has_both : words (1 + 3 * suc i) ≡ with_both i lt (words (1 + 3 * i)) done
     has_both =
         let next : 1 + 3 * suc i ≡ suc (3 + 3 * i) = omega arith in
-        ap words next ∙ next_words (3 + 3 * i) _ (steps.on_words begins i lt).clears_marks ∙ ap (λ (ws : Words). effect ws (Store (cell.Mark (16 * page + i)) 0)) has_cut
+        ap words next ∙ next_words (3 + 3 * i) _ (steps.on_words begins i lt).clears_marks ∙ ap (λ (ws : Words). effect ws (Store (Cell.Mark (16 * page + i)) 0)) has_cut
 
   done_until : (i : ℕ) → i ≤ bits → Done i (words (1 + 3 * i))
   done_until zero le = subst (λ (ws : Words). Done 0 ws) (sym swapped) none_done
@@ -152,23 +140,23 @@ module _ (cells : CellsAreTold) (rows : RowsAreWritten) (l : Layout) (page : ℕ
   are_told = grind (arith, done_until, finds_alloc, finds_marks)
 
   kept_is : kept l page head found ≡ objects_kept l page head before
-  kept_is = kept_counted rows (alloc_words before) (mark_words before) l page head found (λ i. fits (cell.Alloc i)) (λ i. fits (cell.Mark i)) are_told
+  kept_is = kept_counted rows (alloc_words before) (mark_words before) l page head found (λ i. fits (Cell.Alloc i)) (λ i. fits (Cell.Mark i)) are_told
 
   freed_is : freed l page head found ≡ objects_freed l page head before
-  freed_is = freed_counted rows (alloc_words before) (mark_words before) l page head found (λ i. fits (cell.Alloc i)) (λ i. fits (cell.Mark i)) are_told
+  freed_is = freed_counted rows (alloc_words before) (mark_words before) l page head found (λ i. fits (Cell.Alloc i)) (λ i. fits (Cell.Mark i)) are_told
 
   -- the last four steps
   abbrev told_tally : Words → Words
-  told_tally ws = put ws cell.Tally ((ws cell.Tally + (kept l page head found + 2 ^ 32 * freed l page head found)) % 2 ^ 64)
+  told_tally ws = put ws Cell.Tally ((ws Cell.Tally + (kept l page head found + 2 ^ 32 * freed l page head found)) % 2 ^ 64)
 
   abbrev told_live : Words → Words
-  told_live ws = put ws cell.Live ((ws cell.Live + kept l page head found * slot_bytes head) % 2 ^ 64)
+  told_live ws = put ws Cell.Live ((ws Cell.Live + kept l page head found * slot_bytes head) % 2 ^ 64)
 
   abbrev told_heap : Words → Words
-  told_heap ws = put ws cell.Heap ((ws cell.Heap + negative (freed l page head found * slot_bytes head)) % 2 ^ 64)
+  told_heap ws = put ws Cell.Heap ((ws Cell.Heap + negative (freed l page head found * slot_bytes head)) % 2 ^ 64)
 
   abbrev finished : Words → Words
-  finished ws = put ws (cell.Page page) (head_word (once_swept head))
+  finished ws = put ws (Cell.Page page) (head_word (once_swept head))
 
   ends_at : words (last + 4) ≡ finished (told_heap (told_live (told_tally (words last))))
   ends_at =
@@ -186,12 +174,12 @@ module _ (cells : CellsAreTold) (rows : RowsAreWritten) (l : Layout) (page : ℕ
     end = finished (told_heap (told_live (told_tally ws)))
 
     -- but the counts and the head no cell is changed by them
-    as_before : (c : Cell) → cell.Tally ≢ c → cell.Live ≢ c → cell.Heap ≢ c → cell.Page page ≢ c → end c ≡ ws c
+    as_before : (c : Cell) → Cell.Tally ≢ c → Cell.Live ≢ c → Cell.Heap ≢ c → Cell.Page page ≢ c → end c ≡ ws c
     as_before c t v h p =
-        cells.put_elsewhere (told_heap (told_live (told_tally ws))) (cell.Page page) c _ p ∙ cells.put_elsewhere (told_live (told_tally ws)) cell.Heap c _ h ∙ cells.put_elsewhere (told_tally ws) cell.Live c _ v ∙ cells.put_elsewhere ws cell.Tally c _ t
+        cells.put_elsewhere (told_heap (told_live (told_tally ws))) (Cell.Page page) c _ p ∙ cells.put_elsewhere (told_live (told_tally ws)) Cell.Heap c _ h ∙ cells.put_elsewhere (told_tally ws) Cell.Live c _ v ∙ cells.put_elsewhere ws Cell.Tally c _ t
 
-    alloc_at_end : (j : ℕ) → j < bits → end (cell.Alloc (16 * page + j)) ≡ bit_and (before (cell.Alloc (16 * page + j))) (before (cell.Mark (16 * page + j)))
-    alloc_at_end j lt = as_before (cell.Alloc (16 * page + j)) (λ e. absurd (cc)) (λ e. absurd (cc)) (λ e. absurd (cc)) (λ e. absurd (cc)) ∙ done.cut j lt
+    alloc_at_end : (j : ℕ) → j < bits → end (Cell.Alloc (16 * page + j)) ≡ bit_and (before (Cell.Alloc (16 * page + j))) (before (Cell.Mark (16 * page + j)))
+    alloc_at_end j lt = as_before (Cell.Alloc (16 * page + j)) (λ e. absurd (cc)) (λ e. absurd (cc)) (λ e. absurd (cc)) (λ e. absurd (cc)) ∙ done.cut j lt
 
     bit_in : (row : ℕ → ℕ) (k : ℕ) → row_bit row (1024 * page + k) ≡ bit_at (row (16 * page + k / 64)) (k % 64)
     bit_in row k =
@@ -201,8 +189,8 @@ module _ (cells : CellsAreTold) (rows : RowsAreWritten) (l : Layout) (page : ℕ
 
     least_bit : (k : ℕ) → k < 1024 * head.pages → alloc_bit end (1024 * page + k) ≡ min (alloc_bit before (1024 * page + k)) (mark_bit before (1024 * page + k))
     least_bit k lt =
-        bit_in (alloc_words end) k ∙ ap (λ (n : ℕ). bit_at n (k % 64)) (alloc_at_end (k / 64) (omega arith)) ∙ bit_at_and (before (cell.Alloc (16 * page + k / 64))) (before (cell.Mark (16 * page + k / 64))) (k % 64)
-        ∙ ap (λ (n : ℕ). min n (bit_at (before (cell.Mark (16 * page + k / 64))) (k % 64))) (sym (bit_in (alloc_words before) k)) ∙ ap (λ (n : ℕ). min (alloc_bit before (1024 * page + k)) n) (sym (bit_in (mark_words before) k))
+        bit_in (alloc_words end) k ∙ ap (λ (n : ℕ). bit_at n (k % 64)) (alloc_at_end (k / 64) (omega arith)) ∙ bit_at_and (before (Cell.Alloc (16 * page + k / 64))) (before (Cell.Mark (16 * page + k / 64))) (k % 64)
+        ∙ ap (λ (n : ℕ). min n (bit_at (before (Cell.Mark (16 * page + k / 64))) (k % 64))) (sym (bit_in (alloc_words before) k)) ∙ ap (λ (n : ℕ). min (alloc_bit before (1024 * page + k)) n) (sym (bit_in (mark_words before) k))
 
     bit_small : (row : ℕ → ℕ) (k : ℕ) → row_bit row (1024 * page + k) < 2
     bit_small row k = grind (arith, bit_in)
@@ -210,22 +198,22 @@ module _ (cells : CellsAreTold) (rows : RowsAreWritten) (l : Layout) (page : ℕ
     both_bits : (e a m : ℕ) → a < 2 → m < 2 → e ≡ min a m → (e ≡ 1) ↔ ((a ≡ 1) × (m ≡ 1))
     both_bits e a m small low is = (λ one. (omega arith, omega arith), λ h. let x : a ≡ 1 = h.0 in let y : m ≡ 1 = h.1 in omega arith)
 
-    tally_at_end : end cell.Tally ≡ (before cell.Tally + (objects_kept l page head before + 2 ^ 32 * objects_freed l page head before)) % 2 ^ 64
+    tally_at_end : end Cell.Tally ≡ (before Cell.Tally + (objects_kept l page head before + 2 ^ 32 * objects_freed l page head before)) % 2 ^ 64
     tally_at_end =
         ap (λ (n : ℕ). (n + (kept l page head found + 2 ^ 32 * freed l page head found)) % 2 ^ 64) done.tally
-        ∙ ap (λ (n : ℕ). (before cell.Tally + (n + 2 ^ 32 * freed l page head found)) % 2 ^ 64) kept_is ∙ ap (λ (n : ℕ). (before cell.Tally + (objects_kept l page head before + 2 ^ 32 * n)) % 2 ^ 64) freed_is
+        ∙ ap (λ (n : ℕ). (before Cell.Tally + (n + 2 ^ 32 * freed l page head found)) % 2 ^ 64) kept_is ∙ ap (λ (n : ℕ). (before Cell.Tally + (objects_kept l page head before + 2 ^ 32 * n)) % 2 ^ 64) freed_is
 
-    live_at_end : end cell.Live ≡ (before cell.Live + objects_kept l page head before * slot_bytes head) % 2 ^ 64
-    live_at_end = ap (λ (n : ℕ). (n + kept l page head found * slot_bytes head) % 2 ^ 64) done.live ∙ ap (λ (n : ℕ). (before cell.Live + n * slot_bytes head) % 2 ^ 64) kept_is
+    live_at_end : end Cell.Live ≡ (before Cell.Live + objects_kept l page head before * slot_bytes head) % 2 ^ 64
+    live_at_end = ap (λ (n : ℕ). (n + kept l page head found * slot_bytes head) % 2 ^ 64) done.live ∙ ap (λ (n : ℕ). (before Cell.Live + n * slot_bytes head) % 2 ^ 64) kept_is
 
     taken_off : (bytes heap : ℕ) → heap < 2 ^ 64 → ((heap + negative bytes) % 2 ^ 64 + bytes) % 2 ^ 64 ≡ heap
     taken_off bytes heap lt = omega arith
 
-    heap_at_end : (end cell.Heap + objects_freed l page head before * slot_bytes head) % 2 ^ 64 ≡ before cell.Heap
+    heap_at_end : (end Cell.Heap + objects_freed l page head before * slot_bytes head) % 2 ^ 64 ≡ before Cell.Heap
     heap_at_end =
-        let e : end cell.Heap ≡ (before cell.Heap + negative (objects_freed l page head before * slot_bytes head)) % 2 ^ 64 =
-        ap (λ (n : ℕ). (n + negative (freed l page head found * slot_bytes head)) % 2 ^ 64) done.heap ∙ ap (λ (n : ℕ). (before cell.Heap + negative (n * slot_bytes head)) % 2 ^ 64) freed_is in
-        ap (λ (n : ℕ). (n + objects_freed l page head before * slot_bytes head) % 2 ^ 64) e ∙ taken_off (objects_freed l page head before * slot_bytes head) (before cell.Heap) (fits cell.Heap)
+        let e : end Cell.Heap ≡ (before Cell.Heap + negative (objects_freed l page head before * slot_bytes head)) % 2 ^ 64 =
+        ap (λ (n : ℕ). (n + negative (freed l page head found * slot_bytes head)) % 2 ^ 64) done.heap ∙ ap (λ (n : ℕ). (before Cell.Heap + negative (n * slot_bytes head)) % 2 ^ 64) freed_is in
+        ap (λ (n : ℕ). (n + objects_freed l page head before * slot_bytes head) % 2 ^ 64) e ∙ taken_off (objects_freed l page head before * slot_bytes head) (before Cell.Heap) (fits Cell.Heap)
 
     is_swept : IsSwept l page head before end
     is_swept = grind (arith, as_before, bit_small, both_bits, heap_at_end, least_bit, live_at_end, tally_at_end)

@@ -1,17 +1,6 @@
 -- The bits kept and freed, word after word, are the span's objects by their two bits.
-use Rattle.std.proofs.Common.{◌≡◌, ℕ, zero, suc, ◌+◌, ◌*◌, ◌/◌, ◌%◌, ◌^◌, ◌<◌, eqb, refl, sym, ap, ◌∙◌, arith}
-use Rattle.std.specs.Prelude.{◌&&◌, not}
-use Rattle.std.specs.Int.{bit_at}
-use Rattle.gh_base.specs.declared.cell.Ask.TheVariants.{Add, And}
-use Rattle.gh_base.specs.declared.cell.Cell.TheVariants as cell
-use Rattle.gh_base.specs.declared.layout.Layout.{Layout}
-use Rattle.gh_base.specs.declared.pack.SpanHead.{SpanHead}
-use Rattle.gh_base.specs.Packing.{bit}
-use Rattle.gh_base.specs.Rows.{Row, row_bit, RowsAreWritten}
-use Rattle.gh_sweep.specs.Bits.{freed_in, kept_in, sum_below}
-use Rattle.gh_sweep.specs.Counts.{AreTold, AreWords, is_set, marked_objects, ObjectsAreCounted, unmarked_objects}
-use Rattle.gh_sweep.specs.Listing.{bit_words, negative, slot_bytes}
-use Rattle.gh_sweep.specs.Steps.{alloc_told, freed_told, kept_told, marks_told, span_of, steps_on_bits, SweepsAsTold}
+use Rattle.std.proofs.Common.{◌≡◌, ℕ, zero, suc, ◌+◌, ◌*◌, ◌/◌, ◌%◌, ◌^◌, ◌<◌, eqb, refl, sym, ap, ◌∙◌, arith, ◌&&◌, not}
+use Rattle.gh_sweep.proofs.Vocabulary.{Add, alloc_told, And, AreTold, AreWords, bit, bit_at, bit_words, Cell, freed_in, freed_told, is_set, kept_in, kept_told, Layout, marked_objects, marks_told, negative, ObjectsAreCounted, Row, row_bit, RowsAreWritten, slot_bytes, span_of, SpanHead, steps_on_bits, sum_below, SweepsAsTold, unmarked_objects}
 use Rattle.gh_sweep.proofs.Bits.{freed_bits, kept_bits, sum_behind, sum_more, sum_none, sum_same}
 use Rattle.gh_sweep.proofs.Sweeping.Steps.{takes_its_steps}
 
@@ -61,10 +50,10 @@ pub counts : RowsAreWritten → ObjectsAreCounted
 counts rows alloc mark l page head found arena alloc_fits mark_fits begun told = record {
   kept_are = kept;
   freed_are = freed;
-  clears_bits = λ i lt. (steps.on_words begun i lt).clears_bits ∙ ap (λ (m : ℕ). And (cell.Alloc (16 * page + i)) m) (told.marks_are i lt);
-  adds_tally = (steps.on_counts begun).adds_tally ∙ ap (λ (k : ℕ). Add cell.Tally (k + 2 ^ 32 * freed_told found (bit_words head))) kept ∙ ap (λ (f : ℕ). Add cell.Tally (marked_objects alloc mark page head.pages + 2 ^ 32 * f)) freed;
-  adds_live = (steps.on_counts begun).adds_live ∙ ap (λ (k : ℕ). Add cell.Live (k * slot_bytes head)) kept;
-  adds_heap = (steps.on_counts begun).adds_heap ∙ ap (λ (f : ℕ). Add cell.Heap (negative (f * slot_bytes head))) freed;
+  clears_bits = λ i lt. (steps.on_words begun i lt).clears_bits ∙ ap (λ (m : ℕ). And (Cell.Alloc (16 * page + i)) m) (told.marks_are i lt);
+  adds_tally = (steps.on_counts begun).adds_tally ∙ ap (λ (k : ℕ). Add Cell.Tally (k + 2 ^ 32 * freed_told found (bit_words head))) kept ∙ ap (λ (f : ℕ). Add Cell.Tally (marked_objects alloc mark page head.pages + 2 ^ 32 * f)) freed;
+  adds_live = (steps.on_counts begun).adds_live ∙ ap (λ (k : ℕ). Add Cell.Live (k * slot_bytes head)) kept;
+  adds_heap = (steps.on_counts begun).adds_heap ∙ ap (λ (f : ℕ). Add Cell.Heap (negative (f * slot_bytes head))) freed;
   gives_counts = ((steps.swept (steps_on_bits head + 3) _).1 (begun, refl, ap (λ (k : ℕ). span_of head k (unmarked_objects alloc mark page head.pages)) (sym kept) ∙ ap (λ (f : ℕ). span_of head (kept_told found (bit_words head)) f) (sym freed))).1;
 } where
   steps : SweepsAsTold l page head found

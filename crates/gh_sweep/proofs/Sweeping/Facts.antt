@@ -1,19 +1,6 @@
 -- A sweep's own step leads from its facts to the next ones, and they last under what others do.
-use Rattle.std.proofs.Common.{◌≡◌, ◌≢◌, ℕ, suc, ◌+◌, ◌*◌, ◌<◌, ◌≤◌, ◌⊎◌, Bool, true, false, cond, eqb, ltb, Some, None, refl, sym, ap, subst, ◌∙◌, arith, inl, inr}
-use Rattle.std.specs.Prelude.{bit_and, count_ones, min}
-use Rattle.std.specs.Int.{bit_at}
-use Rattle.std.proofs.lemmas.Nat.Bits.{bit_at_and, bit_at-lt}
-use Rattle.gh_base.specs.declared.cell.Cell.TheVariants as cell
-use Rattle.gh_base.specs.declared.pack.PageWord.TheVariants.{Head}
-use Rattle.gh_base.specs.Packing.{FitsHead, head_word, PackedWordsAreReadBack, page_of}
-use Rattle.gh_base.specs.Rows.{CellsAreTold}
-use Rattle.gh_base.specs.Steps.{cell_of, ChangesOneCell, effect, left}
-use Rattle.gh_sweep.specs.Bits.{kept_in, sum_below}
-use Rattle.gh_sweep.specs.Facts.{alloc_here, Facts, FactsAt, HasCleared, HasNotNumber, HasSwept, IsBehind, IsPlaced, marks_here, MayBegin, Others, OthersAt, OwnStep, SpansAreApart, SpanStays, SweepKeepsItsFacts}
-use Rattle.gh_sweep.specs.Listing.{asks_at, at_stage, bit_words, counted, given_at, in_sweep, is_busy, once_swept, slots_in, Sweeping, swept_span, word_at}
-use Rattle.gh_sweep.specs.Sound.{FitsSweep, IsStage}
-use Rattle.gh_sweep.specs.Steps.{IsInArena}
-use Rattle.gh_sweep.specs.Vocabulary.{AddHeap, AddLive, AddTally, Ask, Begin, Cell, ClearBits, ClearMarks, Ended, Finish, Layout, LoadMarks, Lost, SpanHead, SweepEnd, SweepStage, Swept, SweptSpan, Words, put}
+use Rattle.std.proofs.Common.{◌≡◌, ◌≢◌, ℕ, suc, ◌+◌, ◌*◌, ◌<◌, ◌≤◌, ◌⊎◌, Bool, true, false, cond, eqb, ltb, Some, None, refl, sym, ap, subst, ◌∙◌, arith, inl, inr, bit_and, count_ones, min}
+use Rattle.gh_sweep.proofs.Vocabulary.{AddHeap, AddLive, AddTally, alloc_here, Ask, asks_at, at_stage, Begin, bit_at, bit_at-lt, bit_at_and, bit_words, Cell, cell_of, CellsAreTold, ChangesOneCell, ClearBits, ClearMarks, counted, effect, Ended, Facts, FactsAt, Finish, FitsHead, FitsSweep, given_at, HasCleared, HasNotNumber, HasSwept, Head, head_word, in_sweep, is_busy, IsBehind, IsInArena, IsPlaced, IsStage, kept_in, Layout, left, LoadMarks, Lost, marks_here, MayBegin, once_swept, Others, OthersAt, OwnStep, PackedWordsAreReadBack, page_of, put, slots_in, SpanHead, SpansAreApart, SpanStays, sum_below, SweepEnd, Sweeping, SweepKeepsItsFacts, SweepStage, Swept, swept_span, SweptSpan, word_at, Words}
 use Rattle.gh_sweep.proofs.Bits.{sum_more, sum_none, sum_same}
 use Rattle.gh_sweep.proofs.Sweeping.Steps.{word_is}
 
@@ -55,11 +42,11 @@ module _ (changes : ChangesOneCell) (cells : CellsAreTold) where
   elsewhere words step c ne = changes words step c ∙ ap (λ (b : Bool). cond b (left step (words (cell_of step))) (words c)) (cells.other (cell_of step) c ne)
 
   -- a step that is on none of the span's words
-  stays_but : (t : Sweeping) (words : Words) (step : Ask) → cell_of step ≢ cell.Page t.page → ((i : ℕ) → i < bit_words t.head → cell_of step ≢ cell.Alloc (16 * t.page + i)) → ((i : ℕ) → i < bit_words t.head → cell_of step ≢ cell.Mark (16 * t.page + i)) → SpanStays t words (effect words step)
+  stays_but : (t : Sweeping) (words : Words) (step : Ask) → cell_of step ≢ Cell.Page t.page → ((i : ℕ) → i < bit_words t.head → cell_of step ≢ Cell.Alloc (16 * t.page + i)) → ((i : ℕ) → i < bit_words t.head → cell_of step ≢ Cell.Mark (16 * t.page + i)) → SpanStays t words (effect words step)
   stays_but t words step p a m = record {
-    head_stays = elsewhere words step (cell.Page t.page) p;
-    alloc_stays = λ i lt. elsewhere words step (cell.Alloc (16 * t.page + i)) (a i lt);
-    marks_stay = λ i lt. elsewhere words step (cell.Mark (16 * t.page + i)) (m i lt);
+    head_stays = elsewhere words step (Cell.Page t.page) p;
+    alloc_stays = λ i lt. elsewhere words step (Cell.Alloc (16 * t.page + i)) (a i lt);
+    marks_stay = λ i lt. elsewhere words step (Cell.Mark (16 * t.page + i)) (m i lt);
   }
 
   stays_to_others : (t : Sweeping) (before after : Words) (stage : SweepStage) → SpanStays t before after → OthersAt t before after stage
@@ -95,23 +82,23 @@ module _ (changes : ChangesOneCell) (cells : CellsAreTold) where
   -- of the same span, where the other has not begun
   module _ (packed : PackedWordsAreReadBack) (l : Layout) (s : Sweeping) (words : Words) (fits : FitsSweep s.head) where
     abbrev HeadStaysAt : SweepStage → Type 0
-    HeadStaysAt stage = (effect words (asks_at l s stage) (cell.Page s.page) ≡ words (cell.Page s.page)) ⊎ HasNotNumber s.head.number (effect words (asks_at l s stage) (cell.Page s.page))
+    HeadStaysAt stage = (effect words (asks_at l s stage) (Cell.Page s.page) ≡ words (Cell.Page s.page)) ⊎ HasNotNumber s.head.number (effect words (asks_at l s stage) (Cell.Page s.page))
 
     swept_gone : HasNotNumber s.head.number (head_word (once_swept s.head))
     swept_gone = grind arith
 
-    swap_stays : (b : Bool) → eqb (words (cell.Page s.page)) (head_word s.head) ≡ b → HeadStaysAt Begin
+    swap_stays : (b : Bool) → eqb (words (Cell.Page s.page)) (head_word s.head) ≡ b → HeadStaysAt Begin
     swap_stays b e = grind arith
 
     head_stays_at : (stage : SweepStage) → HeadStaysAt stage
     head_stays_at Begin = swap_stays _ refl
-    head_stays_at Finish = inr (subst (λ (w : ℕ). HasNotNumber s.head.number w) (sym (cells.put_here words (cell.Page s.page) (head_word (once_swept s.head)))) swept_gone)
+    head_stays_at Finish = inr (subst (λ (w : ℕ). HasNotNumber s.head.number w) (sym (cells.put_here words (Cell.Page s.page) (head_word (once_swept s.head)))) swept_gone)
     head_stays_at _ = inl refl
 
     behind_stays : (t : Sweeping) → IsBehind s t → Others t words (effect words (asks_at l s s.stage))
     behind_stays t b = subst (λ (stage : SweepStage). OthersAt t words (effect words (asks_at l s s.stage)) stage) (sym b.not_begun) (subst (λ (p : ℕ). HeadAt p t.head.number) b.same_page (subst (λ (n : ℕ). HeadAt s.page n) b.same_number (head_stays_at s.stage))) where
       HeadAt : (page number : ℕ) → Type 0
-      HeadAt page number = (effect words (asks_at l s s.stage) (cell.Page page) ≡ words (cell.Page page)) ⊎ HasNotNumber number (effect words (asks_at l s s.stage) (cell.Page page))
+      HeadAt page number = (effect words (asks_at l s s.stage) (Cell.Page page) ≡ words (Cell.Page page)) ⊎ HasNotNumber number (effect words (asks_at l s s.stage) (Cell.Page page))
 
   others_stay : PackedWordsAreReadBack → (l : Layout) (s t : Sweeping) (words : Words) → IsPlaced l s → IsPlaced l t → SpansAreApart s t ⊎ IsBehind s t → Others t words (effect words (asks_at l s s.stage))
   others_stay packed l s t words placed there (inl apart) = stays_to_others t words _ t.stage (stays_at l s t words placed apart there.arena s.stage placed.stage)
@@ -131,13 +118,13 @@ module _ (changes : ChangesOneCell) (cells : CellsAreTold) (l : Layout) (s : Swe
 
   -- before it has begun
   abbrev begun_words : Words
-  begun_words = put words (cell.Page s.page) (head_word (in_sweep s.head))
+  begun_words = put words (Cell.Page s.page) (head_word (in_sweep s.head))
 
-  begin_leads : MayBegin s words → (b : Bool) → eqb (words (cell.Page s.page)) (head_word s.head) ≡ b → Facts (at_stage s (cond b (LoadMarks 0) (Ended Lost))) (cond b begun_words words)
-  begin_leads h true e = record { own = cells.put_here words (cell.Page s.page) (head_word (in_sweep s.head)); no_marks = λ j lt. absurd (omega arith); kept_are = h.none_kept ∙ sym (sum_none (λ j. count_ones (alloc_here s begun_words j))) }
+  begin_leads : MayBegin s words → (b : Bool) → eqb (words (Cell.Page s.page)) (head_word s.head) ≡ b → Facts (at_stage s (cond b (LoadMarks 0) (Ended Lost))) (cond b begun_words words)
+  begin_leads h true e = record { own = cells.put_here words (Cell.Page s.page) (head_word (in_sweep s.head)); no_marks = λ j lt. absurd (omega arith); kept_are = h.none_kept ∙ sym (sum_none (λ j. count_ones (alloc_here s begun_words j))) }
   begin_leads h false e = tt
 
-  begin_lost : MayBegin s words → (b : Bool) → eqb (words (cell.Page s.page)) (head_word s.head) ≡ b → given_at (cond b (LoadMarks 0) (Ended Lost)) ≡ Some Lost → HasNotNumber s.head.number (cond b begun_words words (cell.Page s.page))
+  begin_lost : MayBegin s words → (b : Bool) → eqb (words (Cell.Page s.page)) (head_word s.head) ≡ b → given_at (cond b (LoadMarks 0) (Ended Lost)) ≡ Some Lost → HasNotNumber s.head.number (cond b begun_words words (Cell.Page s.page))
   begin_lost h b e g = grind arith
 
   begin_swept : (span : SweptSpan) → (b : Bool) → given_at (cond b (LoadMarks 0) (Ended Lost)) ≡ Some (Swept span) → ⊥
@@ -150,14 +137,14 @@ module _ (changes : ChangesOneCell) (cells : CellsAreTold) (l : Layout) (s : Swe
   load_step : (i : ℕ) → i < bit_words s.head → HasSwept s words i → StepAt (LoadMarks i)
   load_step i lt h = record {
     may = h.own;
-    leads = (record { own = h.own; no_marks = h.no_marks; kept_are = h.kept_are }, ap (λ (n : ℕ). words (cell.Mark n)) (sym (own_word i lt)));
+    leads = (record { own = h.own; no_marks = h.no_marks; kept_are = h.kept_are }, ap (λ (n : ℕ). words (Cell.Mark n)) (sym (own_word i lt)));
     lost = λ g. absurd (nothing_given Lost g);
     swept = λ span g. absurd (nothing_given (Swept span) g);
   }
 
   module _ (i marks : ℕ) (lt : i < bit_words s.head) (h : HasSwept s words i) (are : marks_here s words i ≡ marks) where
     abbrev cut_words : Words
-    cut_words = put words (cell.Alloc (16 * s.page + i)) (bit_and (alloc_here s words i) marks)
+    cut_words = put words (Cell.Alloc (16 * s.page + i)) (bit_and (alloc_here s words i) marks)
 
     stays_marked : (j : ℕ) → bit_at (marks_here s words i) j ≡ 1 → bit_at (bit_and (alloc_here s words i) marks) j ≡ bit_at (alloc_here s words i) j
     stays_marked j e =
@@ -166,11 +153,11 @@ module _ (changes : ChangesOneCell) (cells : CellsAreTold) (l : Layout) (s : Swe
           least : (b : ℕ) → b < 2 → min b 1 ≡ b
           least b small = omega arith
 
-    cut_is : cut_words (cell.Alloc (16 * s.page + i)) ≡ bit_and (alloc_here s words i) marks
-    cut_is = cells.put_here words (cell.Alloc (16 * s.page + i)) (bit_and (alloc_here s words i) marks)
+    cut_is : cut_words (Cell.Alloc (16 * s.page + i)) ≡ bit_and (alloc_here s words i) marks
+    cut_is = cells.put_here words (Cell.Alloc (16 * s.page + i)) (bit_and (alloc_here s words i) marks)
 
     cut_other : (j : ℕ) → j < i → alloc_here s words j ≡ alloc_here s cut_words j
-    cut_other j below = sym (cells.put_elsewhere words (cell.Alloc (16 * s.page + i)) (cell.Alloc (16 * s.page + j)) (bit_and (alloc_here s words i) marks) (λ e. let same : 16 * s.page + i ≡ 16 * s.page + j = cc in absurd (omega arith)))
+    cut_other j below = sym (cells.put_elsewhere words (Cell.Alloc (16 * s.page + i)) (Cell.Alloc (16 * s.page + j)) (bit_and (alloc_here s words i) marks) (λ e. let same : 16 * s.page + i ≡ 16 * s.page + j = cc in absurd (omega arith)))
 
     kept_then : s.kept + kept_in (alloc_here s words i) marks ≡ sum_below (λ j. count_ones (alloc_here s cut_words j)) (i + 1)
     kept_then =
@@ -196,7 +183,7 @@ module _ (changes : ChangesOneCell) (cells : CellsAreTold) (l : Layout) (s : Swe
 
   module _ (i : ℕ) (lt : i < bit_words s.head) (h : HasCleared s words i) where
     abbrev unmarked_words : Words
-    unmarked_words = put words (cell.Mark (16 * s.page + i)) 0
+    unmarked_words = put words (Cell.Mark (16 * s.page + i)) 0
 
     at_next : (b : Bool) → ltb (i + 1) (bit_words s.head) ≡ b → Facts (at_stage s (cond b (LoadMarks (i + 1)) AddTally)) unmarked_words
     at_next b e = grind arith
@@ -227,7 +214,7 @@ module _ (changes : ChangesOneCell) (cells : CellsAreTold) (l : Layout) (s : Swe
       leads = tt;
       lost = λ g. absurd (cc);
       swept = λ span g. record {
-        head_is = cells.put_here words (cell.Page s.page) (head_word (once_swept s.head));
+        head_is = cells.put_here words (Cell.Page s.page) (head_word (once_swept s.head));
         no_marks = h.no_marks;
         kept_are = ap (λ (x : SweptSpan). x.kept) (is_it span g) ∙ h.kept_are;
         clear_is = subst (λ (x : SweptSpan). x.clear ≡ ltb x.kept (slots_in s.head.class)) (sym (is_it span g)) refl;

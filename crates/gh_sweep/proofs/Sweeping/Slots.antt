@@ -1,19 +1,9 @@
 -- A span has a clear slot exactly where it has fewer objects than slots.
 use Rattle.std.proofs.Common.{◌≡◌, ◌≢◌, ℕ, zero, suc, ◌+◌, ◌-◌, ◌*◌, ◌/◌, ◌%◌, ◌<◌, ◌≤◌, ◌⊎◌, Bool, true, false, eqb, ltb, refl, sym, ap, subst, ◌∙◌, arith, inl, inr}
-use Rattle.std.specs.Int.{bit_at}
-use Rattle.std.proofs.Math.Nat.{mul-le-mul_right}
 use Rattle.std.proofs.lemmas.Bool.{eqb-true, eq-eqb, ltb-true, ltb-false}
-use Rattle.std.proofs.lemmas.Nat.Bits.{bit_at-lt}
-use Rattle.gh_base.specs.Cells.{Words}
-use Rattle.gh_base.specs.Rows.{alloc_words, row_bit, RowsAreWritten}
+use Rattle.gh_sweep.proofs.Vocabulary.{alloc_words, AreWords, bit_at, bit_at-lt, IsSweptNow, mul-le-mul_right, pages_of, row_bit, RowsAreWritten, slot_of, slot_words_of, slots_in, slots_of, sum_below, Sweeping, SweptSpan, Words}
 use Rattle.gh_class.specs.declared.class.SizeClass.{SizeClass}
 use Rattle.gh_class.specs.declared.class.SizeClass.TheVariants.{Small}
-use Rattle.gh_class.specs.Classes.{pages_of, slot_of, slot_words_of, slots_of}
-use Rattle.gh_sweep.specs.declared.sweep.SweptSpan.{SweptSpan}
-use Rattle.gh_sweep.specs.Bits.{sum_below}
-use Rattle.gh_sweep.specs.Counts.{AreWords}
-use Rattle.gh_sweep.specs.Facts.{IsSweptNow}
-use Rattle.gh_sweep.specs.Listing.{slots_in, Sweeping}
 use Rattle.gh_sweep.specs.Slots.{ClearIsTrue}
 use Rattle.gh_sweep.proofs.Bits.{set_bits, sum_behind, sum_first, sum_more, sum_none, sum_same}
 use Rattle.gh_sweep.proofs.Sweeping.Counts.{bit_is, by_words}

@@ -1,15 +1,7 @@
 -- The steps of a sweep: what it is after each of them.
 use Rattle.std.proofs.Common.{◌≡◌, ◌≢◌, ℕ, zero, suc, ◌+◌, ◌-◌, ◌*◌, ◌/◌, ◌%◌, ◌<◌, ◌≤◌, ◌⊎◌, Bool, true, false, cond, eqb, ltb, is_none, Some, refl, sym, ap, subst, ◌∙◌, arith}
-use Rattle.std.proofs.Math.Nat.{mod-eq_of_lt}
 use Rattle.std.proofs.lemmas.Bool.{eqb-true, eq-eqb, ltb-true, ltb-false, lt-ltb, le-ltb}
-use Rattle.gh_base.specs.declared.cell.Cell.TheVariants as cell
-use Rattle.gh_base.specs.Packing.{head_word}
-use Rattle.gh_base.specs.Machines.{steps_of}
-use Rattle.gh_base.specs.Routines.{EndsWithin}
-use Rattle.gh_sweep.specs.Bits.{freed_in, kept_in}
-use Rattle.gh_sweep.specs.Listing.{asks, bit_words, gives, goes, is_busy, listing, opening, Sweeping}
-use Rattle.gh_sweep.specs.Steps.{after, alloc_told, EndsBy, freed, freed_told, GoesOn, IsBegun, IsInArena, kept, kept_told, marks_told, span_of, steps_on_bits, StepsOnCounts, StepsOnWord, SweepTakesItsSteps}
-use Rattle.gh_sweep.specs.Vocabulary.{AddHeap, AddLive, AddTally, And, Begin, ClearBits, ClearMarks, Ended, Finish, Layout, Load, LoadMarks, Lost, SpanHead, Store, SweepEnd, SweepStage, Swept, SweptSpan}
+use Rattle.gh_sweep.proofs.Vocabulary.{AddHeap, AddLive, AddTally, after, alloc_told, And, asks, Begin, bit_words, Cell, ClearBits, ClearMarks, Ended, EndsBy, EndsWithin, Finish, freed, freed_in, freed_told, gives, goes, GoesOn, head_word, is_busy, IsBegun, IsInArena, kept, kept_in, kept_told, Layout, listing, Load, LoadMarks, Lost, marks_told, mod-eq_of_lt, opening, span_of, SpanHead, steps_of, steps_on_bits, StepsOnCounts, StepsOnWord, Store, SweepEnd, Sweeping, SweepStage, SweepTakesItsSteps, Swept, SweptSpan}
 use Rattle.gh_sweep.proofs.Bits.{sum_more, sum_none}
 
 -- where word i of the span's bits lies
@@ -187,9 +179,9 @@ module _ (l : Layout) (page : ℕ) (head : SpanHead) (found : ℕ → ℕ) where
   module _ (arena : IsInArena l page head) where
     on_word : IsBegun l page head found → (i : ℕ) → i < bit_words head → StepsOnWord l page head found i
     on_word begun i lt = record {
-      loads_marks = ap (asks l) (loads begun arena.some i lt) ∙ ap (λ (n : ℕ). Load (cell.Mark n)) (word_is l page head i arena lt);
-      clears_bits = ap (asks l) (clears begun arena.some i lt) ∙ ap (λ (n : ℕ). And (cell.Alloc n) (marks_told found i)) (word_is l page head i arena lt);
-      clears_marks = ap (asks l) (clears_marks begun arena.some i lt) ∙ ap (λ (n : ℕ). Store (cell.Mark n) 0) (word_is l page head i arena lt);
+      loads_marks = ap (asks l) (loads begun arena.some i lt) ∙ ap (λ (n : ℕ). Load (Cell.Mark n)) (word_is l page head i arena lt);
+      clears_bits = ap (asks l) (clears begun arena.some i lt) ∙ ap (λ (n : ℕ). And (Cell.Alloc n) (marks_told found i)) (word_is l page head i arena lt);
+      clears_marks = ap (asks l) (clears_marks begun arena.some i lt) ∙ ap (λ (n : ℕ). Store (Cell.Mark n) 0) (word_is l page head i arena lt);
     }
 
     on_counts : IsBegun l page head found → StepsOnCounts l page head found

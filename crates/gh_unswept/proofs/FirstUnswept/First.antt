@@ -1,26 +1,13 @@
 -- The pass takes the first unswept span that has a clear slot once it is swept.
 use Rattle.std.proofs.Common.{◌≡◌, ◌≢◌, ℕ, zero, suc, ◌+◌, ◌<◌, ◌≤◌, ◌⊎◌, inl, inr, Bool, true, false, cond, Option, Some, None, is_none, refl, sym, ap, subst, ◌∙◌, arith}
-use Rattle.std.proofs.lemmas.Bool.{cases_lt}
-use Rattle.gh_base.specs.declared.cell.Cell.TheVariants.{Page}
-use Rattle.gh_base.specs.declared.cell.Ask.{Ask}
-use Rattle.gh_base.specs.declared.cell.Ask.TheVariants.{Load}
-use Rattle.gh_base.specs.declared.pack.PageWord.{PageWord}
-use Rattle.gh_base.specs.declared.pack.PageWord.TheVariants.{Free, Head, Body}
-use Rattle.gh_base.specs.declared.pack.SpanHead.{SpanHead}
-use Rattle.gh_base.specs.Packing.{page_of}
-use Rattle.gh_base.specs.declared.layout.Layout.{Layout}
-use Rattle.gh_base.specs.Machines.{steps_of}
-use Rattle.gh_base.specs.Routines.{EndsWith, GoesOn, told}
+use Rattle.gh_unswept.proofs.Vocabulary.{Ask, cases_lt, EndsWith, Free, GoesOn, HasClear, HasNoneClear, Head, is_unswept, IsWantedUnswept, Layout, Load, Lost, once_swept, Page, page_of, pages_gone, PageWord, Passes, SpanHead, steps_of, sweep_in, SweepEnd, Sweeping, Swept, Takes, TakesFirstUnswept, told, Unswept}
+use Rattle.gh_base.specs.declared.pack.PageWord.TheVariants.{Body}
 use Rattle.gh_central.specs.declared.unswept.UnsweptStage.{UnsweptStage}
 use Rattle.gh_central.specs.declared.unswept.UnsweptStage.TheVariants.{Look, Sweep, Take, Ended}
-use Rattle.gh_central.specs.SweptPass.{pages_gone}
-use Rattle.gh_central.specs.UnsweptPass.{after_page, after_sweep, asks, at_stage, given, given_at, goes, goes_at, is_unswept, listing, look_from, sweep_in, Unswept}
-use Rattle.gh_sweep.specs.declared.sweep.SweepEnd.{SweepEnd}
-use Rattle.gh_sweep.specs.declared.sweep.SweepEnd.TheVariants.{Lost, Swept}
+use Rattle.gh_central.specs.UnsweptPass.{after_page, after_sweep, asks, at_stage, given, given_at, goes, goes_at, listing, look_from}
 use Rattle.gh_sweep.specs.declared.sweep.SweptSpan.{SweptSpan}
 use Rattle.gh_sweep.specs.Listing as sweep
-use Rattle.gh_sweep.specs.Listing.{once_swept, Sweeping}
-use Rattle.gh_unswept.specs.FirstUnswept.{EndsSweep, HasClear, HasNoneClear, IsHead, IsMet, IsTold, IsWantedUnswept, Passes, Takes, TakesFirstUnswept}
+use Rattle.gh_unswept.specs.FirstUnswept.{EndsSweep, IsHead, IsMet, IsTold}
 use Rattle.gh_unswept.proofs.FirstUnswept.Tests.{no_page_loaded, some_gone, some_pages, stays, wanted_is, wanted_means}
 
 module _ (layout : Layout) (m : Unswept) (found : ℕ → ℕ) where

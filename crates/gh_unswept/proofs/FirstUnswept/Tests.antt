@@ -1,15 +1,7 @@
 -- What the pass finds out of a page word, and what a step of its sweep leaves.
 use Rattle.std.proofs.Common.{◌≡◌, ◌≢◌, ℕ, ◌≤◌, true, arith}
-use Rattle.gh_base.specs.declared.cell.Ask.TheVariants.{Load}
-use Rattle.gh_base.specs.declared.cell.Cell.TheVariants.{Page}
-use Rattle.gh_base.specs.declared.layout.Layout.{Layout}
-use Rattle.gh_base.specs.declared.pack.PageWord.TheVariants.{Head}
-use Rattle.gh_base.specs.declared.pack.SpanHead.{SpanHead}
-use Rattle.gh_base.specs.Packing.{page_of}
-use Rattle.gh_central.specs.SweptPass.{pages_gone}
-use Rattle.gh_central.specs.UnsweptPass.{is_unswept, Unswept}
-use Rattle.gh_sweep.specs.Listing.{asks, goes, Sweeping}
-use Rattle.gh_unswept.specs.FirstUnswept.{IsWantedUnswept}
+use Rattle.gh_unswept.proofs.Vocabulary.{Head, is_unswept, IsWantedUnswept, Layout, Load, Page, page_of, pages_gone, SpanHead, Sweeping, Unswept}
+use Rattle.gh_sweep.specs.Listing.{asks, goes}
 
 -- A head is tested.
 

@@ -1,18 +1,11 @@
 -- What has acted in a run: of each processor the operations that it began, in their order, each answered as the heap that never frees answers it there.
 use Rattle.std.proofs.Common.{◌≡◌, ℕ, ◌<◌, ◌≤◌, Bool, true, false, cond, eqb, arith, List, [], ◌∷◌, ◌++◌, map, reverse, Option, Some, None, refl, sym, ap, subst, ◌∙◌, inl, inr}
-use Rattle.std.specs.Option.{option_to_list}
-use Rattle.std.specs.List.{filter}
 use Rattle.std.proofs.lemmas.Bool.{eqb-true}
-use Rattle.std.proofs.lemmas.Grind.{reverse_onto}
-use Rattle.std.proofs.lemmas.List.{map-append}
-use Rattle.gh_world.specs.Vocabulary.{Act, acts, AllAnswer, Answer, answer_at, answered_by, AnsweredDeed, by, deeds, Entry, Ever, ever_after, is_busy_at, Layout, Legal, meaning, model_after, Op, op_at, opening_ever, Processor, processor_kind, Program, Shape, started, state_of, takes, Words, words_after}
-use Rattle.gh_base.specs.Orders.{answered as answered_deed, done_at}
-use Rattle.gh_model.specs.Answers.{Answers, ever_after_all}
-use Rattle.gh_mutator.specs.Acting.{ActsOnce, EachOperationActsOnce}
-use Rattle.gh_mutator.specs.Deeds.{acted, has_point, OnlyPointsChange, point_of}
-use Rattle.gh_lists.specs.Order.{answered, Answered, before_step, begun_in, ever_of, order_at, order_of}
-use Rattle.gh_lists.specs.Processors.{arena_of, FullOnlyThere, IsFullFor}
-use Rattle.gh_world.specs.World.{setting_of}
+use Rattle.gh_world.proofs.Vocabulary.{Act, acted, acts, ActsOnce, Answer, Answered, answered, arena_of, before_step, begun_in, by, deeds, EachOperationActsOnce, Entry, ever_of, filter, FullOnlyThere, has_point, is_busy_at, IsFullFor, Layout, Legal, map-append, meaning, OnlyPointsChange, Op, op_at, option_to_list, order_at, order_of, point_of, Processor, processor_kind, Program, reverse_onto, setting_of, Shape, started, state_of, takes, Words, words_after}
+use Rattle.gh_model.specs.Answers.{AllAnswer, Answers, ever_after_all}
+use Rattle.gh_mutator.specs.Deeds.{answer_at}
+use Rattle.gh_base.specs.Orders.{answered_by, AnsweredDeed, model_after, answered as answered_deed, done_at}
+use Rattle.gh_model.specs.Ever.{Ever, ever_after, opening_ever}
 use Rattle.gh_world.proofs.Explained.Steps.{full_pointed, IsAnothers, IsItsOwn, no_processors, who_steps}
 
 pub reverse_more : {A : Type 0} (x : A) (xs : List A) → reverse (x ∷ xs) ≡ reverse xs ++ x ∷ []

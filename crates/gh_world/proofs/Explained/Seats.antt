@@ -1,17 +1,8 @@
 -- A processor begins statements of its own goroutines alone; so what acts for a goroutine is what its processor does.
 use Rattle.std.proofs.Common.{◌≡◌, ℕ, ◌<◌, Bool, true, false, cond, eqb, List, [], ◌∷◌, ◌++◌, reverse, Option, Some, None, refl, sym, ap, subst, ◌∙◌, inl, inr, arith}
-use Rattle.std.specs.Option.{option_to_list}
-use Rattle.std.specs.List.{filter}
-use Rattle.std.proofs.lemmas.Bool.{cases_lt, eqb-true}
+use Rattle.std.proofs.lemmas.Bool.{eqb-true}
 use Rattle.std.proofs.lemmas.List.{append-nil}
-use Rattle.std.proofs.lemmas.List.Elements.{filter-append}
-use Rattle.gh_mutator.specs.Acting.{EachOperationActsOnce}
-use Rattle.gh_lists.specs.Order.{acted_at, acted_in, answered, Answered, before_step, begun_in, ever_of, goroutine_of, order_at, order_of}
-use Rattle.gh_lists.specs.Processors.{arena_of, is_of}
-use Rattle.gh_world.specs.Runs.{acted_by}
-use Rattle.gh_world.specs.Turns.{is_of_seat, is_statement_of, its_goroutine}
-use Rattle.gh_world.specs.Vocabulary.{Act, acts, Arena, by, Entry, is_statement, Layout, Legal, Op, Program}
-use Rattle.gh_world.specs.World.{setting_of}
+use Rattle.gh_world.proofs.Vocabulary.{Act, acted_at, acted_by, acted_in, acts, Answered, answered, Arena, arena_of, before_step, begun_in, by, cases_lt, EachOperationActsOnce, Entry, ever_of, filter, filter-append, goroutine_of, is_of, is_of_seat, is_statement, is_statement_of, its_goroutine, Layout, Legal, Op, option_to_list, order_at, order_of, Program, setting_of}
 use Rattle.gh_lists.specs.Beginning.{both}
 use Rattle.gh_world.proofs.Explained.Acted.{acts_here, acts_last, reverse_more}
 use Rattle.gh_world.proofs.Explained.Steps.{its_own, no_processors}

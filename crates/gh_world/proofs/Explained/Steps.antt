@@ -1,9 +1,6 @@
 -- What the entries of a run are to the script: each is a step of a processor on an operation, or of an actor that runs none of it.
-use Rattle.std.proofs.Common.{◌≡◌, ℕ, ◌<◌, ◌≤◌, ◌⊎◌, Bool, true, false, cond, ◌&&◌, List, ◌∷◌, Option, Some, None, sym, ap, ◌∙◌, arith}
-use Rattle.std.specs.Prelude.{is_some}
-use Rattle.gh_world.specs.Vocabulary.{Act, acting, acts_at, Answer, begins_at, Entry, has_point, is_busy_at, is_leaving, is_serving, is_statement, Layout, Legal, Op, Processor, Program, register_of, Shape, takes_at, Task}
-use Rattle.gh_base.specs.declared.operation.Op.TheVariants as op
-use Rattle.gh_mutator.specs.declared.task.Task.TheVariants as task
+use Rattle.std.proofs.Common.{◌≡◌, ℕ, ◌<◌, ◌≤◌, ◌⊎◌, Bool, true, false, cond, ◌&&◌, List, ◌∷◌, Option, Some, None, sym, ap, ◌∙◌, arith, is_some}
+use Rattle.gh_world.proofs.Vocabulary.{Act, acting, acts_at, after_poll, Answer, begins_at, Entry, given_at, has_point, is_busy_at, is_leaving, is_serving, is_statement, Layout, Legal, Op, Polling, Processor, Program, register_of, setting_of, setup_of, Shape, takes_at, Task}
 use Rattle.gh_mutator.specs.Global as global
 use Rattle.gh_poll.specs.Leave as leave
 use Rattle.gh_mutator.specs.Load as load
@@ -12,18 +9,16 @@ use Rattle.gh_poll.specs.Poll as poll
 use Rattle.gh_mutator.specs.Register as register
 use Rattle.gh_mutator.specs.Store as store
 use Rattle.gh_poll.specs.Wait as wait
-use Rattle.gh_world.specs.RunVocabulary.{after_poll, given_at, Polling, setting_of}
 use Rattle.gh_lists.specs.Stepping as steps
 use Rattle.gh_world.proofs.StepFacts.{step_facts}
 use Rattle.gh_lists.specs.Stepping.{not_full}
-use Rattle.gh_world.specs.World.{setup_of}
 
 -- ---- what a step is to an operation with a point
 
 -- the task is of an operation that has a point
 abbrev pub is_pointed : Task → Bool
-is_pointed task.Poll = false
-is_pointed (task.Leave x) = false
+is_pointed Task.Poll = false
+is_pointed (Task.Leave x) = false
 is_pointed _ = true
 
 pub given_is : (t : Task) (x : Option Answer) → given_at t x ≡ cond (is_pointed t) x None
@@ -57,21 +52,21 @@ begins_pointed shapes m o busy = grind arith
 pub statement_pointed : (o : Op) → has_point o ≡ false → is_statement o ≡ false
 statement_pointed o e = grind arith
 
-new_pointed : (b full : Bool) (g d t : ℕ) (x : Act) → acting b (op.New g d t) full ≡ Some x → has_point x.op ≡ true
+new_pointed : (b full : Bool) (g d t : ℕ) (x : Act) → acting b (Op.New g d t) full ≡ Some x → has_point x.op ≡ true
 new_pointed b full g d t x e = grind arith
 
 pub full_pointed : (l : Layout) (m : Processor) (t : Task) (found : ℕ) (x : Act) → acts_at l m t found ≡ Some x → x.full ≡ true → has_point x.op ≡ true
-full_pointed l m task.Idle found x e f = absurd cc
-full_pointed l m task.Left found x e f = absurd cc
-full_pointed l m (task.Load y) found x e f = absurd (not_full (load.step l y found).acts (load.op_of y) x e f)
-full_pointed l m (task.Store y) found x e f = absurd (not_full (store.step l m.poll.local (register_of m y.g y.v) y found).acts (store.op_of y) x e f)
-full_pointed l m (task.Global y) found x e f = absurd (not_full (global.step l (register_of m y.g y.r) y found).acts (global.op_of y) x e f)
-full_pointed l m (task.Register y) found x e f = absurd (not_full (register.step (register_of m y.g (register.read_of y)) y).acts (register.op_of y) x e f)
-full_pointed l m (task.New y) found x e f = new_pointed (new.acts_at l y.stage found) (new.is_full_at y.stage) y.wanted.g y.wanted.d y.wanted.t x e
-full_pointed l m (task.Gc g y) found x e f = absurd (not_full (is_some (wait.gives l (wait.waiting y m.poll) found)) (op.Gc g) x e f)
-full_pointed l m task.Poll found x e f = absurd (not_full (is_some (poll.gives l m.poll found)) op.Poll x e f)
-full_pointed l m (task.End g) found x e f = absurd (not_full true (op.End g) x e f)
-full_pointed l m (task.Leave y) found x e f = absurd (not_full (is_some (leave.gives y found)) op.Leave x e f)
+full_pointed l m Task.Idle found x e f = absurd cc
+full_pointed l m Task.Left found x e f = absurd cc
+full_pointed l m (Task.Load y) found x e f = absurd (not_full (load.step l y found).acts (load.op_of y) x e f)
+full_pointed l m (Task.Store y) found x e f = absurd (not_full (store.step l m.poll.local (register_of m y.g y.v) y found).acts (store.op_of y) x e f)
+full_pointed l m (Task.Global y) found x e f = absurd (not_full (global.step l (register_of m y.g y.r) y found).acts (global.op_of y) x e f)
+full_pointed l m (Task.Register y) found x e f = absurd (not_full (register.step (register_of m y.g (register.read_of y)) y).acts (register.op_of y) x e f)
+full_pointed l m (Task.New y) found x e f = new_pointed (new.acts_at l y.stage found) (new.is_full_at y.stage) y.wanted.g y.wanted.d y.wanted.t x e
+full_pointed l m (Task.Gc g y) found x e f = absurd (not_full (is_some (wait.gives l (wait.waiting y m.poll) found)) (Op.Gc g) x e f)
+full_pointed l m Task.Poll found x e f = absurd (not_full (is_some (poll.gives l m.poll found)) Op.Poll x e f)
+full_pointed l m (Task.End g) found x e f = absurd (not_full true (Op.End g) x e f)
+full_pointed l m (Task.Leave y) found x e f = absurd (not_full (is_some (leave.gives y found)) Op.Leave x e f)
 
 -- ---- who steps
 

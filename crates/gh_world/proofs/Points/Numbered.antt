@@ -1,23 +1,10 @@
 -- The points of a run so far are the statements that acted, in their order, and those of each goroutine are its first ones.
-use Rattle.std.proofs.Common.{◌≡◌, ℕ, zero, suc, ◌+◌, ◌-◌, ◌<◌, ◌%◌, Bool, true, false, cond, eqb, eq-eqb, ◌&&◌, List, [], ◌∷◌, ◌++◌, map, length, reverse, Option, Some, None, refl, sym, ap, subst, ◌∙◌, append_assoc, arith, inl, inr}
-use Rattle.std.specs.Prelude.{option_map, slice_get}
-use Rattle.std.specs.List.{filter, range_with_len}
-use Rattle.std.specs.Option.{option_to_list}
-use Rattle.std.proofs.lemmas.Bool.{cases_lt, eqb-true}
-use Rattle.std.proofs.lemmas.Bool.Decides.{nat_tests}
-use Rattle.std.proofs.lemmas.List.{append-nil, length-reverse, map-append, reverse-append}
-use Rattle.std.proofs.lemmas.List.Elements.{filter-append}
-use Rattle.std.proofs.lemmas.List.FromFn.{length-range_with_len}
+use Rattle.std.proofs.Common.{◌≡◌, ℕ, zero, suc, ◌+◌, ◌-◌, ◌<◌, ◌%◌, Bool, true, false, cond, eqb, eq-eqb, ◌&&◌, List, [], ◌∷◌, ◌++◌, map, length, reverse, Option, Some, None, refl, sym, ap, subst, ◌∙◌, append_assoc, arith, inl, inr, option_map, slice_get}
+use Rattle.std.proofs.lemmas.Bool.{eqb-true}
+use Rattle.std.proofs.lemmas.List.{append-nil, length-reverse}
 use Rattle.std.proofs.lemmas.Nat.{mod_below}
-use Rattle.std.proofs.lemmas.Option.{slice_get-map}
-use Rattle.gh_mutator.specs.Acting.{EachOperationActsOnce}
-use Rattle.gh_script.specs.Program.{statement_as_op, statement_at}
-use Rattle.gh_lists.specs.Order.{answered, Answered, before_step, begun_in, ever_of, order_at, order_of}
+use Rattle.gh_world.proofs.Vocabulary.{Act, acts, Answered, answered, before_step, begun_in, bit, by, cases_lt, EachOperationActsOnce, Entry, ever_of, filter, filter-append, is_of_seat, is_point, is_statement, is_statement_of, IsRunSoFar, its_goroutine, Layout, Legal, length-range_with_len, map-append, nat_tests, next_point, now_in, Op, op_at, option_to_list, order_at, order_of, points_in, processor_kind, Program, range_with_len, reverse-append, setting_of, slice_get-map, state_of, statement_as_op, statement_at, statement_count, statement_now, statements_of}
 use Rattle.gh_world.specs.Points.{numbers_with, op_at_point, ops_of, PointsAre, PointsAreStatements, statements_acted}
-use Rattle.gh_world.specs.Runs.{IsRunSoFar}
-use Rattle.gh_world.specs.Turns.{is_of_seat, is_statement_of, its_goroutine, next_point, statement_count, statement_now}
-use Rattle.gh_world.specs.Vocabulary.{Act, acts, bit, by, Entry, is_point, is_statement, Layout, Legal, Op, op_at, processor_kind, Program, state_of, statements_of}
-use Rattle.gh_world.specs.World.{now_in, points_in, setting_of}
 use Rattle.gh_world.proofs.EachOnce.{acted_ops, turns_mine}
 use Rattle.gh_world.proofs.Explained.Acted.{acts_last, ops_are, ops_by, ops_in, reverse_more}
 use Rattle.gh_world.proofs.Explained.Seats.{all_its, AreOf, filter-reverse, its_seat, order_its}

@@ -1,5 +1,5 @@
 use Rattle.std.proofs.Common.{◌≤◌, ◌<◌, ◌^◌, arith}
-use Rattle.std.proofs.Math.Pow.{pow_mono, pow-lt}
+use Rattle.gh_bitmap.proofs.Vocabulary.{pow-lt, pow_mono}
 use Rattle.gh_bitmap.proofs.bits.bits_between.Goals as goal
 
 pub overflow_sub-result-else-high-eq64 : goal.overflow_sub-result-else-high-eq64

@@ -1,5 +1,4 @@
-use Rattle.gh_base.specs.Machines.{steps_of}
-use Rattle.gh_bitmap.specs.SetPointers.{listing}
+use Rattle.gh_bitmap.proofs.Vocabulary.{listing, steps_of}
 use Rattle.gh_bitmap.proofs.PointerSetting.Running.{ends}
 use Rattle.gh_bitmap.proofs.laws.pointers_are_set.Goals as goal
 

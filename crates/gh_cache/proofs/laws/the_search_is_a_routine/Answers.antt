@@ -1,6 +1,5 @@
 use Rattle.std.proofs.Common.{arith}
-use Rattle.std.proofs.Math.Nat.{mod-lt}
-use Rattle.std.proofs.lemmas.Bool.Decides.{nat_tests}
+use Rattle.gh_cache.proofs.Vocabulary.{mod-lt, nat_tests}
 use Rattle.gh_cache.proofs.laws.the_search_is_a_routine.Goals as goal
 
 pub returns : goal.returns

@@ -1,8 +1,6 @@
-use Rattle.std.proofs.Common.{◌≡◌, ◌/◌, ◌^◌, sym, ap, ◌∙◌, arith}
-use Rattle.std.specs.Prelude.{bit_and, slice_index}
-use Rattle.std.specs.Int.{bit_not, w64}
+use Rattle.std.proofs.Common.{◌≡◌, ◌/◌, ◌^◌, sym, ap, ◌∙◌, arith, bit_and, slice_index}
 use Rattle.std.proofs.lemmas.Bool.{eqb-true}
-use Rattle.gh_central.specs.Slots.{slot_starts}
+use Rattle.gh_central.proofs.Vocabulary.{bit_not, slot_starts, w64}
 use Rattle.gh_central.proofs.Starts.{all_set}
 use Rattle.gh_central.proofs.slots.none_clear.Goals as goal
 

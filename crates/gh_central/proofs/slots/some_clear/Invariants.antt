@@ -1,5 +1,5 @@
 use Rattle.std.proofs.Common.{ℕ, ◌<◌, ◌≤◌}
-use Rattle.gh_central.specs.Slots.{IsClear}
+use Rattle.gh_central.proofs.Vocabulary.{IsClear}
 use Rattle.gh_central.proofs.slots.some_clear.Given as goal
 
 abbrev pub invariant-loop-i : goal.invariant-loop-i

@@ -1,9 +1,5 @@
-use Rattle.std.proofs.Common.{◌≡◌, ◌∙◌, ℕ, List, Some, None, ap, codes, sym}
-use Rattle.std.specs.Prelude.{option_map}
-use Rattle.std.specs.Borrow.{Bor}
-use Rattle.clap.specs.Words.{found_of, first_of, rows_of}
-use Rattle.clap.proofs.WalkLemmas.{first_value-rows}
-use Rattle.gh_command.specs.CommandLine.{is_given}
+use Rattle.std.proofs.Common.{◌≡◌, ◌∙◌, ℕ, List, Some, None, ap, codes, sym, option_map}
+use Rattle.gh_command.proofs.Vocabulary.{Bor, first_of, first_value-rows, found_of, is_given, rows_of}
 use Rattle.gh_command.proofs.line.check_in.Goals as goal
 
 pub returns-in-Some : goal.returns-in-Some

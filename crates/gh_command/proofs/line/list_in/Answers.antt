@@ -1,10 +1,5 @@
-use Rattle.std.proofs.Common.{◌≡◌, ◌∙◌, ℕ, List, IfOk, Option, Some, None, ap, codes, subst, sym}
-use Rattle.std.specs.Prelude.{option_map}
-use Rattle.std.specs.Borrow.{Bor}
-use Rattle.clap.specs.Words.{found_of, first_of, rows_of}
-use Rattle.clap.proofs.WalkLemmas.{first_value-rows}
-use Rattle.gh_replay.specs.declared.schedule.Turn.{Turn}
-use Rattle.gh_command.specs.CommandLine.{list_said}
+use Rattle.std.proofs.Common.{◌≡◌, ◌∙◌, ℕ, List, IfOk, Option, Some, None, ap, codes, subst, sym, option_map}
+use Rattle.gh_command.proofs.Vocabulary.{Bor, first_of, first_value-rows, found_of, list_said, rows_of, Turn}
 use Rattle.gh_command.proofs.line.list_in.Goals as goal
 
 -- src/line.rt:79:1

@@ -1,4 +1,4 @@
-use Rattle.std.specs.Str.Parse.{ParsesUnsigned, ExplainsUnsignedError, HasUnsignedDigitsIfOk}
+use Rattle.gh_command.proofs.Vocabulary.{ExplainsUnsignedError, HasUnsignedDigitsIfOk, ParsesUnsigned}
 use Rattle.gh_command.proofs.CommandLineNumbers.{number_of_rows}
 use Rattle.gh_command.proofs.line.number_in.Goals as goal
 

@@ -1,8 +1,7 @@
 use Rattle.std.proofs.Common.{◌≡◌, ◌∙◌, IfOk, Option, subst, sym}
-use Rattle.clap.specs.Words.{app_of, kind_of, subcommand_rows_of}
-use Rattle.gh_command.specs.CommandLine.{texts}
+use Rattle.gh_command.proofs.Vocabulary.{app_of, Line, subcommand_rows_of, texts}
+use Rattle.clap.specs.Words.{kind_of}
 use Rattle.gh_command.proofs.CommandLineParsed.{not_taken, taken}
-use Rattle.gh_command.specs.declared.line.Line.{Line}
 use Rattle.gh_command.proofs.line.read_line.Goals as goal
 
 -- src/line.rt:30:1

@@ -1,5 +1,5 @@
 use Rattle.std.proofs.Common.{rules}
-use Rattle.std.specs.Str.{chars}
+use Rattle.gh_command.proofs.Vocabulary.{chars}
 use Rattle.gh_replay.specs.ListText.{list_of, turn_read, turns_read}
 use Rattle.gh_script.specs.Words.{digits_value_of, number_spelled, value_from}
 use Rattle.gh_command.proofs.line_laws.known_lines.Goals as goal

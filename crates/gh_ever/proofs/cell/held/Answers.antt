@@ -1,7 +1,5 @@
 use Rattle.std.proofs.Common.{◌≡◌, Option, Some, sym, ◌∙◌, ap, arith, ℕ, Bor}
-use Rattle.std.specs.Option.{option_copied}
-use Rattle.gh_ever.specs.declared.cell.Cell.{Cell}
-use Rattle.gh_ever.specs.Found.{index_of}
+use Rattle.gh_ever.proofs.Vocabulary.{Cell, index_of, option_copied}
 use Rattle.gh_ever.proofs.Putting.{held_here, held_none, index_within}
 use Rattle.gh_ever.proofs.cell.held.Goals as goal
 

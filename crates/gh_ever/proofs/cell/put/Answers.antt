@@ -1,5 +1,5 @@
 use Rattle.std.proofs.Common.{◌≡◌, Some, None, sym, ◌∙◌, arith}
-use Rattle.gh_ever.specs.Found.{index_of}
+use Rattle.gh_ever.proofs.Vocabulary.{index_of}
 use Rattle.gh_ever.proofs.Putting.{finds_here, finds_past, index_within, put_here, put_past, where_ok}
 use Rattle.gh_ever.proofs.cell.put.Goals as goal
 

@@ -1,5 +1,5 @@
 use Rattle.std.proofs.Common.{◌≡◌, ◌<◌, ◌≤◌, ◌*◌, ◌^◌, take, sum}
-use Rattle.std.specs.List.{All}
+use Rattle.gh_ever.proofs.Vocabulary.{All}
 use Rattle.gh_ever.proofs.opening.total_of.Given as goal
 
 abbrev pub invariant-loop-count : goal.invariant-loop-count

@@ -1,5 +1,5 @@
 use Rattle.std.proofs.Common.{◌≡◌, false, vec_len}
-use Rattle.std.specs.List.{AllWithin}
+use Rattle.gh_ever.proofs.Vocabulary.{AllWithin}
 use Rattle.gh_ever.proofs.reach.clear.Given as goal
 
 abbrev pub invariant-loop-i : goal.invariant-loop-i

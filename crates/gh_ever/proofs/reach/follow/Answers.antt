@@ -1,5 +1,5 @@
 use Rattle.std.proofs.Common.{sym, ◌∙◌, arith}
-use Rattle.gh_ever.specs.Inside.{lists_of}
+use Rattle.gh_ever.proofs.Vocabulary.{lists_of}
 use Rattle.gh_ever.proofs.Reaching.{followed_sound, followed_marked}
 use Rattle.gh_ever.proofs.reach.follow.Goals as goal
 

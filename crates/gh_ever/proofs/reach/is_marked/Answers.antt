@@ -1,5 +1,5 @@
 use Rattle.std.proofs.Common.{◌≡◌, ◌<◌, false, length, sym, ◌∙◌, refl, arith}
-use Rattle.gh_model.specs.Ever.{same_name}
+use Rattle.gh_ever.proofs.Vocabulary.{same_name}
 use Rattle.gh_ever.proofs.Marking.{marked_at}
 use Rattle.gh_ever.proofs.reach.is_marked.Goals as goal
 

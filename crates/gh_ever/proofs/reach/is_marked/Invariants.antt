@@ -1,5 +1,5 @@
 use Rattle.std.proofs.Common.{◌≡◌, drop}
-use Rattle.gh_ever.specs.Marks.{marked}
+use Rattle.gh_ever.proofs.Vocabulary.{marked}
 use Rattle.gh_ever.proofs.reach.is_marked.Given as goal
 
 abbrev pub invariant-loop-i : goal.invariant-loop-i

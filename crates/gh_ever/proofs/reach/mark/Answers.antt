@@ -1,6 +1,5 @@
 use Rattle.std.proofs.Common.{◌≡◌, ◌<◌, vec_len, length, true, false, sym, ◌∙◌, ap, arith, Bool, Vec, Global}
-use Rattle.gh_model.specs.Ever.{same_name}
-use Rattle.gh_ever.specs.Marks.{with_mark}
+use Rattle.gh_ever.proofs.Vocabulary.{same_name, with_mark}
 use Rattle.gh_ever.proofs.Marking.{with_mark_here, with_mark_further}
 use Rattle.gh_ever.proofs.reach.mark.Goals as goal
 

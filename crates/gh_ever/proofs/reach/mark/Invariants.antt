@@ -1,5 +1,5 @@
 use Rattle.std.proofs.Common.{◌≡◌, ◌++◌, take, drop}
-use Rattle.gh_ever.specs.Marks.{with_mark}
+use Rattle.gh_ever.proofs.Vocabulary.{with_mark}
 use Rattle.gh_ever.proofs.reach.mark.Given as goal
 
 abbrev pub invariant-loop-i : goal.invariant-loop-i

@@ -1,8 +1,6 @@
 use Rattle.std.proofs.Common.{◌≡◌, ◌<◌, List, Bool, sym, ◌∙◌, subst, ap}
 use Rattle.std.proofs.lemmas.Bool.{true≢false}
-use Rattle.gh_ever.specs.Lists.{Lists}
-use Rattle.gh_ever.specs.Inside.{lists_of}
-use Rattle.gh_ever.specs.Marks.{unmarked}
+use Rattle.gh_ever.proofs.Vocabulary.{Lists, lists_of, unmarked}
 use Rattle.gh_ever.proofs.Passing.{cell_read, fewer_yet, one_followed}
 use Rattle.gh_ever.proofs.reach.pass.Goals as goal
 use Rattle.gh_ever.proofs.reach.pass.Goals.{then-follow, else-follow}

@@ -1,6 +1,5 @@
 use Rattle.std.proofs.Common.{◌≡◌, ◌<◌, true, false, vec_len}
-use Rattle.std.specs.List.{AllWithin}
-use Rattle.gh_ever.specs.Marks.{IsFollowed, IsSoundMarks, unmarked}
+use Rattle.gh_ever.proofs.Vocabulary.{AllWithin, IsFollowed, IsSoundMarks, unmarked}
 use Rattle.gh_ever.proofs.reach.pass.Given as goal
 
 abbrev pub invariant-loop-cell : goal.invariant-loop-cell

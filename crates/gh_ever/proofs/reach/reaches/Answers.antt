@@ -1,8 +1,6 @@
 use Rattle.std.proofs.Common.{◌≡◌, refl, sym, ◌∙◌, ap}
 use Rattle.std.proofs.lemmas.Bool.{true≢false}
-use Rattle.gh_ever.specs.Lists.{Lists}
-use Rattle.gh_ever.specs.Inside.{lists_of}
-use Rattle.gh_ever.specs.Marks.{marked}
+use Rattle.gh_ever.proofs.Vocabulary.{Lists, lists_of, marked}
 use Rattle.gh_ever.proofs.Reaching.{marked_none, reach_marked}
 use Rattle.gh_ever.proofs.reach.reaches.Goals as goal
 

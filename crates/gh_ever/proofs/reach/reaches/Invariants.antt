@@ -1,5 +1,5 @@
 use Rattle.std.proofs.Common.{◌≡◌, vec_len}
-use Rattle.gh_ever.specs.Marks.{IsSoundMarks, unmarked}
+use Rattle.gh_ever.proofs.Vocabulary.{IsSoundMarks, unmarked}
 use Rattle.gh_ever.proofs.reach.reaches.Given as goal
 
 abbrev pub invariant-passes : goal.invariant-passes

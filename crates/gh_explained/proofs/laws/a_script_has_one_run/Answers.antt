@@ -1,4 +1,4 @@
-use Rattle.gh_world.proofs.OneRun.{every_order_has_one_run, every_run_is_one, none_is_longer}
+use Rattle.gh_explained.proofs.Vocabulary.{every_order_has_one_run, every_run_is_one, none_is_longer}
 use Rattle.gh_explained.proofs.laws.a_script_has_one_run.Goals as goal
 
 pub returns-clause-ordered : goal.returns-clause-ordered

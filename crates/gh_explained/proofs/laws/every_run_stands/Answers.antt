@@ -1,4 +1,4 @@
-use Rattle.gh_world.proofs.OfScripts.{all_stand}
+use Rattle.gh_explained.proofs.Vocabulary.{all_stand}
 use Rattle.gh_explained.proofs.laws.every_run_stands.Goals as goal
 
 pub returns-clause-runs : goal.returns-clause-runs

@@ -1,7 +1,4 @@
-use Rattle.gh_mutator.specs.Deeds.{processor_kind}
-use Rattle.gh_script.specs.Program.{Program, WellFormed}
-use Rattle.gh_base.specs.declared.layout.Layout.{Layout}
-use Rattle.gh_world.specs.World.{LaysOut}
+use Rattle.gh_explained.proofs.Vocabulary.{Layout, LaysOut, processor_kind, Program, WellFormed}
 use Rattle.gh_explained.proofs.GoingOn.{ends_whole, goes_on, Laws}
 use Rattle.gh_explained.proofs.laws.runs_go_on.Goals as goal
 

@@ -1,4 +1,4 @@
-use Rattle.gh_script.specs.Generated.{generated_program}
+use Rattle.gh_generated.proofs.Vocabulary.{generated_program}
 use Rattle.gh_generated.proofs.Ordered.{operations_kept}
 use Rattle.gh_generated.proofs.laws.generated_scripts_leave_one_heap.Goals as goal
 

@@ -1,9 +1,7 @@
 use Rattle.std.proofs.Common.{arith}
-use Rattle.gh_marked.specs.Drawing.{DrawnKnown}
-use Rattle.gh_marked.specs.Known.{Known}
+use Rattle.gh_holds.proofs.Vocabulary.{DrawnKnown, Known, Wanted}
 use Rattle.gh_holds.proofs.AllActors.Lists.{held}
 use Rattle.gh_holds.specs.OfLists.{LawsOfLists, lists_known}
-use Rattle.gh_marked.proofs.OneStep.Wanted.{Wanted}
 use Rattle.gh_holds.proofs.holds.every_list_holds.Goals as goal
 
 module _ (c : goal.After-every_global_is_counted) where

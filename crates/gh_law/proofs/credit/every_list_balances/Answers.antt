@@ -1,11 +1,8 @@
 use Rattle.std.proofs.Common.{List}
-use Rattle.gh_law.specs.Actors.{AllStands}
-use Rattle.gh_lists.specs.Handshake.{those}
-use Rattle.gh_law.specs.Vocabulary.{Entry, Legal, Op}
+use Rattle.gh_law.proofs.Vocabulary.{AllStands, Entry, Legal, Op, setup_for, those}
 use Rattle.gh_law.proofs.Crediting.Few.{few_words}
 use Rattle.gh_law.proofs.Crediting.Lists.{Cited, stands}
 use Rattle.gh_law.proofs.credit.every_list_balances.Goals as goal
-use Rattle.gh_lists.specs.Lists.{setup_for}
 
 pub returns : goal.returns
 returns c given es good limits fit legal =

@@ -1,5 +1,4 @@
-use Rattle.gh_coord.specs.Stopping.{acks_of}
-use Rattle.gh_lists.specs.Handshake.{those}
+use Rattle.gh_lists.proofs.Vocabulary.{acks_of, those}
 use Rattle.gh_lists.proofs.Knowing.{keeps_it}
 use Rattle.gh_lists.proofs.Shaking.{in_handshake}
 use Rattle.gh_lists.proofs.handshake.every_list_keeps_the_handshake.Goals as goal

@@ -1,7 +1,5 @@
-use Rattle.gh_lists.specs.Processors.{arena_of}
-use Rattle.gh_lists.proofs.Vocabulary.{processor_kind, state_of}
+use Rattle.gh_lists.proofs.Vocabulary.{arena_of, processor_kind, setup_for, state_of}
 use Rattle.gh_lists.proofs.numbers.every_list_opens_few.Goals as goal
-use Rattle.gh_lists.specs.Lists.{setup_for}
 
 pub returns : goal.returns
 returns c given es fit legal =

@@ -1,4 +1,4 @@
-use Rattle.gh_lists.specs.Marking.{setup_in}
+use Rattle.gh_marked.proofs.Vocabulary.{setup_in}
 use Rattle.gh_marked.proofs.CycleMarking.Lists.{Cited, marks_to_the_end}
 use Rattle.gh_marked.proofs.CycleMarking.Moving.{Known}
 use Rattle.gh_marked.proofs.marked.every_cycle_is_marked.Goals as goal

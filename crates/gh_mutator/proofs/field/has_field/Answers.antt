@@ -1,6 +1,5 @@
-use Rattle.std.proofs.Common.{ap, sym, ◌∙◌, rules}
-use Rattle.std.specs.Prelude.{nat_lt}
-use Rattle.gh_base.specs.Packing.{slot_in}
+use Rattle.std.proofs.Common.{ap, sym, ◌∙◌, rules, nat_lt}
+use Rattle.gh_mutator.proofs.Vocabulary.{slot_in}
 use Rattle.gh_mutator.proofs.ClassFacts.{ClassLaws}
 use Rattle.gh_mutator.proofs.Fields.{field_there}
 use Rattle.gh_mutator.proofs.field.has_field.Goals as goal

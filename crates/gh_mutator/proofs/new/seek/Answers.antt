@@ -1,9 +1,5 @@
 use Rattle.std.proofs.Common.{◌≡◌, IfSome, ap, subst, ◌∙◌}
-use Rattle.gh_alloc.specs.FindSound.{IsCached}
-use Rattle.gh_alloc.specs.Search.{Seeking}
-use Rattle.gh_alloc.specs.Within.{LiesWithin}
-use Rattle.gh_mutator.specs.Stays.{search_wants}
-use Rattle.gh_mutator.specs.Vocabulary.{Sought}
+use Rattle.gh_mutator.proofs.Vocabulary.{IsCached, LiesWithin, search_wants, Seeking, Sought}
 use Rattle.gh_mutator.proofs.new.seek.Goals as goal
 
 pub cache_span-requires-clause-cached : goal.cache_span-requires-clause-cached

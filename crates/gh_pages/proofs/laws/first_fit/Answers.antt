@@ -1,5 +1,5 @@
 use Rattle.std.proofs.Common.{refl, arith}
-use Rattle.gh_pages.specs.Listing.{opening}
+use Rattle.gh_pages.proofs.Vocabulary.{opening}
 use Rattle.gh_pages.proofs.Carving.Looking.{finds}
 use Rattle.gh_pages.proofs.laws.first_fit.Goals as goal
 

@@ -1,7 +1,5 @@
 use Rattle.std.proofs.Common.{◌≡◌, ℕ, ◌*◌, ◌<◌, ◌≤◌, sym, subst, ◌∙◌, inl, inr}
-use Rattle.std.proofs.lemmas.Bool.{cases_lt}
-use Rattle.gh_class.specs.declared.class.SizeClass.TheVariants.{Large, Small}
-use Rattle.gh_class.specs.Classes.{class_number, IsClassOf, size_class_of}
+use Rattle.gh_plenty.proofs.Vocabulary.{cases_lt, class_number, IsClassOf, Large, size_class_of, Small}
 use Rattle.gh_plenty.proofs.Crowded.{lie_within}
 use Rattle.gh_plenty.proofs.Never.{never_full}
 use Rattle.gh_plenty.proofs.laws.scripts_with_plenty_are_never_full.Goals as goal

@@ -1,5 +1,5 @@
 use Rattle.std.proofs.Common.{◌≡◌}
-use Rattle.gh_poll.specs.Give.{stage_from}
+use Rattle.gh_poll.proofs.Vocabulary.{stage_from}
 use Rattle.gh_poll.proofs.give.stage_from.Given as goal
 
 abbrev pub invariant-loop-class : goal.invariant-loop-class

@@ -1,6 +1,5 @@
 use Rattle.std.proofs.Common.{◌≡◌, ℕ, ◌+◌, ◌≤◌, List, [], ◌∷◌, drop, None, refl, sym, ◌∙◌, rules, arith}
-use Rattle.gh_base.specs.declared.layout.Layout.{Layout}
-use Rattle.gh_poll.specs.Poll.{first_due}
+use Rattle.gh_poll.proofs.Vocabulary.{first_due, Layout}
 use Rattle.gh_poll.proofs.poll.first_due.Goals as goal
 
 -- past the goroutines no stack is to be scanned

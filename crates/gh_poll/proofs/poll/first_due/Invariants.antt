@@ -1,5 +1,5 @@
 use Rattle.std.proofs.Common.{◌≡◌, drop}
-use Rattle.gh_poll.specs.Poll.{first_due}
+use Rattle.gh_poll.proofs.Vocabulary.{first_due}
 use Rattle.gh_poll.proofs.poll.first_due.Given as goal
 
 abbrev pub invariant-loop-g : goal.invariant-loop-g

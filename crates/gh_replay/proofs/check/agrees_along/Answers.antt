@@ -1,5 +1,5 @@
 use Rattle.std.proofs.Common.{◌≡◌, true, false, subst, sym, ◌∙◌, arith}
-use Rattle.gh_ever.specs.Lists.{Lists}
+use Rattle.gh_replay.proofs.Vocabulary.{Lists}
 use Rattle.gh_replay.proofs.Beside.{Midway, next_due, next_given, next_goes_on, next_there, point_at, told_some}
 use Rattle.gh_replay.proofs.check.agrees_along.Goals as goal
 use Rattle.gh_replay.proofs.check.agrees_along.Goals.{in-Some, in-None}

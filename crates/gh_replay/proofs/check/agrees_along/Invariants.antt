@@ -1,6 +1,5 @@
 use Rattle.std.proofs.Common.{List, drop}
-use Rattle.gh_lists.specs.Order.{Answered}
-use Rattle.gh_replay.specs.Check.{AreAlong}
+use Rattle.gh_replay.proofs.Vocabulary.{Answered, AreAlong}
 use Rattle.gh_replay.proofs.Beside.{Midway}
 use Rattle.gh_replay.proofs.check.agrees_along.Given as goal
 

@@ -1,7 +1,5 @@
 use Rattle.std.proofs.Common.{ℕ, ap, sym, ◌∙◌}
-use Rattle.std.proofs.lemmas.Option.{get_or_from_slice_get, slice_get-get_or}
-use Rattle.gh_base.specs.declared.value.Answer.{Answer}
-use Rattle.gh_base.specs.declared.value.Answer.TheVariants.{Done}
+use Rattle.gh_replay.proofs.Vocabulary.{Answer, Done, get_or_from_slice_get, slice_get-get_or}
 use Rattle.gh_replay.proofs.Taking.{next_mine, next_other}
 use Rattle.gh_replay.proofs.check.answer_index.Goals as goal
 

@@ -1,5 +1,5 @@
 use Rattle.std.proofs.Common.{◌≡◌, drop}
-use Rattle.gh_lines.specs.Text.{answers_by}
+use Rattle.gh_replay.proofs.Vocabulary.{answers_by}
 use Rattle.gh_replay.proofs.check.answer_index.Given as goal
 
 abbrev pub invariant-loop-i : goal.invariant-loop-i

@@ -1,6 +1,5 @@
 use Rattle.std.proofs.Common.{◌≡◌, length}
-use Rattle.gh_ever.specs.Lists.{ever_of}
-use Rattle.gh_world.specs.Points.{with_ends}
+use Rattle.gh_replay.proofs.Vocabulary.{ever_of, with_ends}
 use Rattle.gh_replay.proofs.check.end_all.Given as goal
 
 abbrev pub invariant-loop-g : goal.invariant-loop-g

@@ -1,6 +1,5 @@
 use Rattle.std.proofs.Common.{◌≡◌, ◌+◌, ◌++◌, ◌∷◌, [], ◌<◌, Some, length-append, sym, ap, ◌∙◌, length, arith}
-use Rattle.std.specs.List.{slice_split}
-use Rattle.gh_replay.specs.ListText.{is_comma}
+use Rattle.gh_replay.proofs.Vocabulary.{is_comma, slice_split}
 use Rattle.gh_replay.proofs.Pieces.{ends, fewer, goes_on, stops, too_many}
 use Rattle.gh_replay.proofs.list.parse_list.Goals as goal
 

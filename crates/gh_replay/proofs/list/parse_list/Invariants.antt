@@ -1,8 +1,5 @@
-use Rattle.std.proofs.Common.{◌≡◌, ◌+◌, ◌≤◌, ◌++◌, length}
-use Rattle.std.specs.Prelude.{option_map}
-use Rattle.std.specs.List.{slice_split}
-use Rattle.gh_replay.specs.ListText.{is_comma, turns_read}
-use Rattle.gh_replay.specs.declared.list.TheConstants.{MOST_ITEMS}
+use Rattle.std.proofs.Common.{◌≡◌, ◌+◌, ◌≤◌, ◌++◌, length, option_map}
+use Rattle.gh_replay.proofs.Vocabulary.{is_comma, MOST_ITEMS, slice_split, turns_read}
 use Rattle.gh_replay.proofs.list.parse_list.Given as goal
 
 abbrev pub invariant-pieces : goal.invariant-pieces

@@ -1,5 +1,5 @@
 use Rattle.std.proofs.Common.{◌≡◌, ◌+◌, ◌*◌, drop, true, false, ltb, length, refl, sym, ◌∙◌, arith}
-use Rattle.std.proofs.lemmas.Bool.Decides.{nat_tests}
+use Rattle.gh_replay.proofs.Vocabulary.{nat_tests}
 use Rattle.gh_replay.proofs.Numbers.{digits_end, digits_more, digits_stop, in_range, large_has_none, letters_have_none, too_small, unfit, unfit_has_none, value_end, value_grows, value_more}
 use Rattle.gh_replay.proofs.list.ranged.Goals as goal
 use Rattle.gh_replay.proofs.list.ranged.Goals.{then-is_empty-via-then-is_empty, then-is_empty-via-else-is_empty+then-word-gt20}

@@ -1,6 +1,5 @@
 use Rattle.std.proofs.Common.{◌≡◌, ◌≤◌, drop}
-use Rattle.std.specs.List.{list_all}
-use Rattle.gh_script.specs.Words.{is_digit, value_from}
+use Rattle.gh_replay.proofs.Vocabulary.{is_digit, list_all, value_from}
 use Rattle.gh_replay.proofs.list.ranged.Given as goal
 
 abbrev pub invariant-loop-b : goal.invariant-loop-b

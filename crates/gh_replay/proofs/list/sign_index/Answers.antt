@@ -1,5 +1,5 @@
 use Rattle.std.proofs.Common.{arith}
-use Rattle.gh_replay.specs.ListText.{is_sign}
+use Rattle.gh_replay.proofs.Vocabulary.{is_sign}
 use Rattle.gh_replay.proofs.Pieces.{met_nowhere}
 use Rattle.gh_replay.proofs.list.sign_index.Goals as goal
 

@@ -1,5 +1,5 @@
 use Rattle.std.proofs.Common.{◌≡◌, ℕ, ◌<◌, false, get_or}
-use Rattle.gh_replay.specs.ListText.{is_sign}
+use Rattle.gh_replay.proofs.Vocabulary.{is_sign}
 use Rattle.gh_replay.proofs.list.sign_index.Given as goal
 
 abbrev pub invariant-loop-i : goal.invariant-loop-i

@@ -1,5 +1,5 @@
 use Rattle.std.proofs.Common.{◌+◌, drop, get_or, Some, None, refl, sym, ◌∙◌, arith}
-use Rattle.gh_replay.specs.ListText.{until_of}
+use Rattle.gh_replay.proofs.Vocabulary.{until_of}
 use Rattle.gh_replay.proofs.Pieces.{no_until, signed, unsigned}
 use Rattle.gh_replay.proofs.list.turn.Goals as goal
 

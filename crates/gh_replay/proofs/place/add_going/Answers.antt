@@ -1,6 +1,5 @@
 use Rattle.std.proofs.Common.{◌≡◌, ℕ, ◌+◌, ◌++◌, ◌<◌, List, [], ◌∷◌, length, sym, ap, ◌∙◌, length-append, arith}
-use Rattle.gh_world.specs.World.{actors_of}
-use Rattle.gh_replay.specs.Places.{seen_of}
+use Rattle.gh_replay.proofs.Vocabulary.{actors_of, seen_of}
 use Rattle.gh_replay.proofs.Going.{all_joined, from_first, going_from, joins, joins_not}
 use Rattle.gh_replay.proofs.place.add_going.Goals as goal
 use Rattle.gh_replay.proofs.place.add_going.Goals.{then-not-is_done, else-not-is_done}

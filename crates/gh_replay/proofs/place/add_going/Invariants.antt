@@ -1,8 +1,5 @@
 use Rattle.std.proofs.Common.{◌≡◌, ◌++◌, ◌≤◌, length}
-use Rattle.std.specs.Vec.{vec_capacity}
-use Rattle.gh_world.specs.World.{actors_of}
-use Rattle.gh_replay.specs.Places.{seen_of}
-use Rattle.gh_replay.specs.Standing.{going}
+use Rattle.gh_replay.proofs.Vocabulary.{actors_of, going, seen_of, vec_capacity}
 use Rattle.gh_replay.proofs.Going.{going_from}
 use Rattle.gh_replay.proofs.place.add_going.Given as goal
 

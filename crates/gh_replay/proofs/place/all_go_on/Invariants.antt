@@ -1,5 +1,5 @@
 use Rattle.std.proofs.Common.{◌≡◌, ℕ, ◌<◌, false}
-use Rattle.gh_world.specs.World.{is_done}
+use Rattle.gh_replay.proofs.Vocabulary.{is_done}
 use Rattle.gh_replay.proofs.place.all_go_on.Given as goal
 
 abbrev pub invariant-loop-a : goal.invariant-loop-a

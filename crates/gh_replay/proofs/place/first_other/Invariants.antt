@@ -1,6 +1,5 @@
 use Rattle.std.proofs.Common.{◌≡◌}
-use Rattle.gh_replay.specs.Places.{seen_of}
-use Rattle.gh_replay.specs.Standing.{with_actor_ended}
+use Rattle.gh_replay.proofs.Vocabulary.{seen_of, with_actor_ended}
 use Rattle.gh_replay.proofs.Others.{first_within}
 use Rattle.gh_replay.proofs.place.first_other.Given as goal
 

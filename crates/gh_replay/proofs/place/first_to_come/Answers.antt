@@ -1,5 +1,5 @@
 use Rattle.std.proofs.Common.{sym, ◌∙◌, arith}
-use Rattle.gh_replay.specs.Places.{seen_of}
+use Rattle.gh_replay.proofs.Vocabulary.{seen_of}
 use Rattle.gh_replay.proofs.Going.{come_here, come_past, come_to_end}
 use Rattle.gh_replay.proofs.place.first_to_come.Goals as goal
 

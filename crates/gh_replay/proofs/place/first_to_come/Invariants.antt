@@ -1,6 +1,5 @@
 use Rattle.std.proofs.Common.{◌≡◌, drop}
-use Rattle.gh_replay.specs.Places.{seen_of}
-use Rattle.gh_replay.specs.Standing.{to_come}
+use Rattle.gh_replay.proofs.Vocabulary.{seen_of, to_come}
 use Rattle.gh_replay.proofs.place.first_to_come.Given as goal
 
 abbrev pub invariant-loop-i : goal.invariant-loop-i

@@ -1,7 +1,5 @@
 use Rattle.std.proofs.Common.{sym, ◌∙◌}
-use Rattle.gh_world.specs.World.{actors_of}
-use Rattle.gh_replay.specs.Places.{seen_of}
-use Rattle.gh_replay.specs.Standing.{with_actor_ended}
+use Rattle.gh_replay.proofs.Vocabulary.{actors_of, seen_of, with_actor_ended}
 use Rattle.gh_replay.proofs.Others.{in_first, in_second}
 use Rattle.gh_replay.proofs.place.in_turn_else.Goals as goal
 

@@ -1,6 +1,5 @@
 use Rattle.std.proofs.Common.{sym, ◌∙◌}
-use Rattle.gh_replay.specs.Places.{seen_of}
-use Rattle.gh_replay.specs.Standing.{with_actor_ended}
+use Rattle.gh_replay.proofs.Vocabulary.{seen_of, with_actor_ended}
 use Rattle.gh_replay.proofs.Others.{all_out, some_in}
 use Rattle.gh_replay.proofs.place.is_alone.Goals as goal
 

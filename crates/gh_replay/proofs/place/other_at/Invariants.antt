@@ -1,5 +1,4 @@
-use Rattle.std.proofs.Common.{◌≡◌, drop}
-use Rattle.std.specs.Prelude.{slice_get}
+use Rattle.std.proofs.Common.{◌≡◌, drop, slice_get}
 use Rattle.gh_replay.proofs.Others.{but}
 use Rattle.gh_replay.proofs.place.other_at.Given as goal
 

@@ -1,6 +1,5 @@
-use Rattle.std.proofs.Common.{ℕ, ◌%◌, List, length, ap, ◌∙◌}
-use Rattle.std.specs.Prelude.{slice_get}
-use Rattle.gh_replay.specs.Places.{seen_of}
+use Rattle.std.proofs.Common.{ℕ, ◌%◌, List, length, ap, ◌∙◌, slice_get}
+use Rattle.gh_replay.proofs.Vocabulary.{seen_of}
 use Rattle.gh_replay.proofs.Others.{but, chosen_but}
 use Rattle.gh_replay.proofs.place.who_else.Goals as goal
 

@@ -1,8 +1,6 @@
 use Rattle.std.proofs.Common.{◌+◌, ◌++◌, length, take, ap, sym, ◌∙◌, arith}
-use Rattle.std.specs.Vec.{vec_capacity}
 use Rattle.std.proofs.lemmas.List.{length-append}
-use Rattle.gh_lines.specs.Text.{answers_by}
-use Rattle.gh_replay.specs.Report.{rows_from}
+use Rattle.gh_replay.proofs.Vocabulary.{answers_by, rows_from, vec_capacity}
 use Rattle.gh_replay.proofs.Rows.{by-counted, by-first, by-other, from-few, from-lined-more, from-silent-more}
 use Rattle.gh_replay.proofs.report.add_rows.Goals as goal
 use Rattle.gh_replay.proofs.report.add_rows.Goals.{then-h-g+then-has_line, then-h-g+else-has_line, else-h-g}

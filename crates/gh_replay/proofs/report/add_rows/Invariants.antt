@@ -1,7 +1,5 @@
 use Rattle.std.proofs.Common.{◌≡◌, ◌++◌, ◌≤◌, length, take}
-use Rattle.std.specs.Vec.{vec_capacity}
-use Rattle.gh_lines.specs.Text.{answers_by}
-use Rattle.gh_replay.specs.Report.{rows_from}
+use Rattle.gh_replay.proofs.Vocabulary.{answers_by, rows_from, vec_capacity}
 use Rattle.gh_replay.proofs.report.add_rows.Given as goal
 
 abbrev pub invariant-loop-h : goal.invariant-loop-h

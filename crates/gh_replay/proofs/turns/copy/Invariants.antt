@@ -1,5 +1,5 @@
 use Rattle.std.proofs.Common.{◌≡◌, ◌+◌, ◌++◌, ◌≤◌, length, take}
-use Rattle.std.specs.Vec.{vec_capacity}
+use Rattle.gh_replay.proofs.Vocabulary.{vec_capacity}
 use Rattle.gh_replay.proofs.turns.copy.Given as goal
 
 abbrev pub invariant-loop-cycle : goal.invariant-loop-cycle

@@ -1,18 +1,5 @@
-use Rattle.std.proofs.Common.{◌≡◌, ℕ, ◌++◌, ◌≤◌, length, map, Option, refl, sym, ◌∙◌, ap, subst, arith}
-use Rattle.std.specs.Prelude.{IfSome}
-use Rattle.std.specs.Vec.{vec_capacity}
-use Rattle.gh_base.specs.declared.layout.Layout.{Layout}
-use Rattle.gh_ever.specs.Lists.{Lists}
-use Rattle.gh_lines.specs.Text.{Outcome}
-use Rattle.gh_script.specs.Program.{Program}
-use Rattle.gh_world.specs.Runs.{drawn_of, outcome_by, swept_cycle}
-use Rattle.gh_world.specs.Schedule.{ended_after, in_order_from}
-use Rattle.gh_world.specs.Turns.{total_of}
-use Rattle.gh_world.specs.World.{actors_of, layout_of, LaysOut, script_of, setting_of}
-use Rattle.gh_world.specs.Wishes.{most_cycles}
-use Rattle.gh_replay.specs.Check.{IsEverAfter}
-use Rattle.gh_replay.specs.Plan.{Plan}
-use Rattle.gh_replay.specs.Replayed.{IsReplayed, IsUnfinished}
+use Rattle.std.proofs.Common.{◌≡◌, ℕ, ◌++◌, ◌≤◌, length, map, Option, refl, sym, ◌∙◌, ap, subst, arith, IfSome}
+use Rattle.gh_replay.proofs.Vocabulary.{actors_of, drawn_of, ended_after, in_order_from, IsEverAfter, IsReplayed, IsUnfinished, Layout, layout_of, LaysOut, Lists, most_cycles, Outcome, outcome_by, Plan, Program, script_of, setting_of, swept_cycle, total_of, vec_capacity}
 use Rattle.gh_replay.proofs.Along.{ever_after, have_statements}
 use Rattle.gh_replay.proofs.Choosing.{some_going}
 use Rattle.gh_replay.proofs.Running.{beside, finished, not_all, outcome_is, unfinished}

@@ -1,10 +1,6 @@
 use Rattle.std.proofs.Common.{◌≡◌, ℕ, ◌+◌, ◌-◌, ◌++◌, ◌<◌, false, List, length, refl, sym, ◌∙◌, ap, subst, arith}
 use Rattle.std.proofs.lemmas.List.{append-nil}
-use Rattle.gh_base.specs.declared.value.Answer.{Answer}
-use Rattle.gh_world.specs.Turns.{total_of}
-use Rattle.gh_world.specs.World.{actors_of, answered_in}
-use Rattle.gh_replay.specs.Places.{KnowsThoseGoing, standing_at}
-use Rattle.gh_replay.specs.Standing.{Standing}
+use Rattle.gh_replay.proofs.Vocabulary.{actors_of, Answer, answered_in, KnowsThoseGoing, Standing, standing_at, total_of}
 use Rattle.gh_replay.proofs.Kept.{is_finished, knows_less, knows_on, Stepped}
 use Rattle.gh_replay.proofs.Running.{Midway, more, opens, ran, room_for, roomy}
 use Rattle.gh_replay.proofs.turns.run.Goals as goal

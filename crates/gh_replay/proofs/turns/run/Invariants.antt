@@ -1,8 +1,5 @@
 use Rattle.std.proofs.Common.{◌≡◌, ◌<◌, ◌≤◌, length}
-use Rattle.std.specs.Vec.{vec_capacity}
-use Rattle.gh_world.specs.Turns.{total_of}
-use Rattle.gh_world.specs.World.{actors_of, answered_of, layout_of, script_of}
-use Rattle.gh_replay.specs.Places.{KnowsThoseGoing, standing_at}
+use Rattle.gh_replay.proofs.Vocabulary.{actors_of, answered_of, KnowsThoseGoing, layout_of, script_of, standing_at, total_of, vec_capacity}
 use Rattle.gh_replay.proofs.Running.{Midway}
 use Rattle.gh_replay.proofs.turns.run.Given as goal
 

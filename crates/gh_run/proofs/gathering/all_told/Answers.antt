@@ -1,8 +1,6 @@
-use Rattle.std.proofs.Common.{◌≡◌, ◌∙◌, ◌+◌, ◌%◌, ◌<◌, ◌++◌, ℕ, Some, Bool, true, false, ap, arith, length, length-append, ltb, ltb-true, ltb-false, refl, subst, sym}
-use Rattle.std.specs.Prelude.{slice_get}
+use Rattle.std.proofs.Common.{◌≡◌, ◌∙◌, ◌+◌, ◌%◌, ◌<◌, ◌++◌, ℕ, Some, Bool, true, false, ap, arith, length, length-append, ltb, ltb-true, ltb-false, refl, subst, sym, slice_get}
 use Rattle.std.proofs.lemmas.Option.{slice_get-get_or}
-use Rattle.gh_lines.specs.Text.{answers_by}
-use Rattle.gh_run.specs.Jobs.{of_goroutine}
+use Rattle.gh_run.proofs.Vocabulary.{answers_by, of_goroutine}
 use Rattle.gh_run.proofs.Answered.{has_room, Its, its_same, none_behind, within, within_all}
 use Rattle.gh_run.proofs.Goroutines.{AreTold, none_told, of_length, one_told_more}
 use Rattle.gh_run.proofs.gathering.all_told.Goals as goal

@@ -1,8 +1,5 @@
-use Rattle.std.proofs.Common.{◌≡◌, ◌≤◌, length, take}
-use Rattle.std.specs.Prelude.{sum_by}
-use Rattle.std.specs.Vec.{vec_capacity}
-use Rattle.gh_script.specs.Program.{statements_in}
-use Rattle.gh_world.specs.Turns.{total_of}
+use Rattle.std.proofs.Common.{◌≡◌, ◌≤◌, length, take, sum_by}
+use Rattle.gh_run.proofs.Vocabulary.{statements_in, total_of, vec_capacity}
 use Rattle.gh_run.proofs.Answered.{Its}
 use Rattle.gh_run.proofs.Goroutines.{AreTold}
 use Rattle.gh_run.proofs.gathering.all_told.Given as goal

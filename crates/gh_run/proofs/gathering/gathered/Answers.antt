@@ -1,8 +1,5 @@
 use Rattle.std.proofs.Common.{◌∙◌, ◌++◌, ◌∷◌, [], ap, arith, length, subst, sym}
-use Rattle.std.specs.Vec.Iter.{into_iter_items}
-use Rattle.gh_shared.specs.declared.handle.Handle.{Handle}
-use Rattle.gh_shared.specs.Calls.{Gathered}
-use Rattle.gh_shared.specs.Handles.{IsHandleOf}
+use Rattle.gh_run.proofs.Vocabulary.{Gathered, Handle, into_iter_items, IsHandleOf}
 use Rattle.gh_run.proofs.Carried.{all_gathered, Midway, midway_first, midway_more, next_there}
 use Rattle.gh_run.proofs.Places.{none_left}
 use Rattle.gh_run.proofs.gathering.gathered.Goals as goal

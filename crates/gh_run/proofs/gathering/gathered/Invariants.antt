@@ -1,5 +1,5 @@
 use Rattle.std.proofs.Common.{◌≡◌, length}
-use Rattle.std.specs.Vec.Iter.{into_iter_items, into_iter_len}
+use Rattle.gh_run.proofs.Vocabulary.{into_iter_items, into_iter_len}
 use Rattle.gh_run.proofs.Carried.{Midway}
 use Rattle.gh_run.proofs.gathering.gathered.Given as goal
 

@@ -1,8 +1,6 @@
 use Rattle.std.proofs.Common.{◌≡◌, ◌∙◌, ◌+◌, ◌∷◌, [], ℕ, suc, ap, arith, length, subst, sym}
 use Rattle.std.proofs.lemmas.List.{length-append}
-use Rattle.std.specs.Vec.Iter.{into_iter_items}
-use Rattle.gh_run.specs.Jobs.{EachFrom, IsJobOf}
-use Rattle.gh_shared.specs.Handles.{IsFresh}
+use Rattle.gh_run.proofs.Vocabulary.{EachFrom, into_iter_items, IsFresh, IsJobOf}
 use Rattle.gh_run.proofs.Places.{each_of, each_push, each_rest, none_left}
 use Rattle.gh_run.proofs.making.jobs.Goals as goal
 

@@ -1,8 +1,5 @@
 use Rattle.std.proofs.Common.{◌≡◌, ◌+◌, length}
-use Rattle.std.specs.Vec.Iter.{into_iter_items, into_iter_len}
-use Rattle.gh_base.specs.Cells.{seats_of}
-use Rattle.gh_run.specs.Jobs.{EachFrom, IsJobOf}
-use Rattle.gh_shared.specs.Handles.{IsFresh, plan_of}
+use Rattle.gh_run.proofs.Vocabulary.{EachFrom, into_iter_items, into_iter_len, IsFresh, IsJobOf, plan_of, seats_of}
 use Rattle.gh_run.proofs.making.jobs.Given as goal
 
 abbrev pub invariant-loop-handle : goal.invariant-loop-handle

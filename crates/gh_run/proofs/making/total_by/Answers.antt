@@ -1,6 +1,5 @@
 use Rattle.std.proofs.Common.{◌+◌, ◌<◌, length, arith}
-use Rattle.std.proofs.lemmas.List.Sums.{sum_by-take-le}
-use Rattle.gh_script.specs.Program.{statements_in}
+use Rattle.gh_run.proofs.Vocabulary.{statements_in, sum_by-take-le}
 use Rattle.gh_run.proofs.Seats.{few_more, its_more}
 use Rattle.gh_run.proofs.making.total_by.Goals as goal
 

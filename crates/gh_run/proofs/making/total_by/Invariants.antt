@@ -1,7 +1,5 @@
-use Rattle.std.proofs.Common.{◌≡◌, ◌≤◌, length, take}
-use Rattle.std.specs.Prelude.{sum_by}
-use Rattle.std.specs.List.{range_with_len}
-use Rattle.gh_script.specs.Program.{statements_in}
+use Rattle.std.proofs.Common.{◌≡◌, ◌≤◌, length, take, sum_by}
+use Rattle.gh_run.proofs.Vocabulary.{range_with_len, statements_in}
 use Rattle.gh_run.proofs.Seats.{its}
 use Rattle.gh_run.proofs.making.total_by.Given as goal
 

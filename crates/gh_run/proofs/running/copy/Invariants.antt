@@ -1,5 +1,5 @@
 use Rattle.std.proofs.Common.{◌≡◌, ◌+◌, ◌++◌, ◌≤◌, length, take}
-use Rattle.std.specs.Vec.{vec_capacity}
+use Rattle.gh_run.proofs.Vocabulary.{vec_capacity}
 use Rattle.gh_run.proofs.running.copy.Given as goal
 
 abbrev pub invariant-loop-cycle : goal.invariant-loop-cycle

@@ -1,14 +1,6 @@
-use Rattle.std.proofs.Common.{◌≡◌, ◌∙◌, ◌+◌, ◌++◌, ◌%◌, ◌^◌, ℕ, Some, ap, arith, length, subst, sym}
-use Rattle.std.specs.Prelude.{slice_get}
-use Rattle.gh_lines.specs.Text.{answers_by}
-use Rattle.gh_coord.specs.Keeping.{last_kept}
-use Rattle.gh_coord.specs.Listing.{lapsed_at}
-use Rattle.gh_run.specs.declared.job.HeapJob.{HeapJob}
-use Rattle.gh_run.specs.Jobs.{AreDoneOf}
-use Rattle.gh_shared.specs.Handles.{plan_of, view_of}
+use Rattle.std.proofs.Common.{◌≡◌, ◌∙◌, ◌+◌, ◌++◌, ◌%◌, ◌^◌, ℕ, Some, ap, arith, length, subst, sym, slice_get}
+use Rattle.gh_run.proofs.Vocabulary.{answers_by, AreDoneOf, HeapJob, lapsed_at, last_kept, marked_by, most_cycles, plan_of, view_of}
 use Rattle.gh_shared.proofs.Drawing.{one_word}
-use Rattle.gh_world.specs.Runs.{marked_by}
-use Rattle.gh_world.specs.Wishes.{most_cycles}
 use Rattle.gh_run.proofs.Explaining.{drawn_after, few_cycles, lapsed_by_jobs, told_by_jobs}
 use Rattle.gh_run.proofs.Whole.{all_end, all_start, told_as}
 use Rattle.gh_run.proofs.running.run.Goals as goal

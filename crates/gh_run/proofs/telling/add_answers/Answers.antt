@@ -1,8 +1,6 @@
 use Rattle.std.proofs.Common.{◌+◌, ◌++◌, length, take, ap, sym, ◌∙◌, arith}
-use Rattle.std.specs.Vec.{vec_capacity}
 use Rattle.std.proofs.lemmas.List.{length-append}
-use Rattle.gh_lines.specs.Text.{answers_by}
-use Rattle.gh_run.specs.Jobs.{of_goroutine}
+use Rattle.gh_run.proofs.Vocabulary.{answers_by, of_goroutine, vec_capacity}
 use Rattle.gh_run.proofs.Goroutines.{by_counted, by_first, by_other, of_length, of_more}
 use Rattle.gh_run.proofs.telling.add_answers.Goals as goal
 use Rattle.gh_run.proofs.telling.add_answers.Goals.{then-h-g, else-h-g}

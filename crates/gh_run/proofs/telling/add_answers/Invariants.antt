@@ -1,7 +1,5 @@
 use Rattle.std.proofs.Common.{◌≡◌, ◌++◌, take}
-use Rattle.std.specs.Vec.{vec_capacity}
-use Rattle.gh_lines.specs.Text.{answers_by}
-use Rattle.gh_run.specs.Jobs.{of_goroutine}
+use Rattle.gh_run.proofs.Vocabulary.{answers_by, of_goroutine, vec_capacity}
 use Rattle.gh_run.proofs.telling.add_answers.Given as goal
 
 abbrev pub invariant-loop-h : goal.invariant-loop-h

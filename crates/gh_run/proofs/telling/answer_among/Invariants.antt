@@ -1,6 +1,5 @@
-use Rattle.std.proofs.Common.{◌≡◌, ◌-◌, drop}
-use Rattle.std.specs.Prelude.{slice_get}
-use Rattle.gh_lines.specs.Text.{answers_by}
+use Rattle.std.proofs.Common.{◌≡◌, ◌-◌, drop, slice_get}
+use Rattle.gh_run.proofs.Vocabulary.{answers_by}
 use Rattle.gh_run.proofs.telling.answer_among.Given as goal
 
 abbrev pub invariant-loop-i : goal.invariant-loop-i

@@ -1,8 +1,6 @@
 use Rattle.std.proofs.Common.{◌∙◌, ap, refl, subst, sym}
-use Rattle.gh_base.specs.declared.operation.Op.{Op}
+use Rattle.gh_run.proofs.Vocabulary.{May, Op, Operated, told}
 use Rattle.gh_base.specs.declared.value.Answer.TheVariants.{Done}
-use Rattle.gh_run.specs.Jobs.{told}
-use Rattle.gh_shared.specs.Calls.{May, Operated}
 use Rattle.gh_run.proofs.Fitting.{global_set, global_there, of_type}
 use Rattle.gh_run.proofs.turning.operate.Goals as goal
 

@@ -1,7 +1,5 @@
 use Rattle.std.proofs.Common.{◌∙◌, ◌++◌, ℕ, List, ap, subst, sym}
-use Rattle.gh_base.specs.declared.value.Answer.{Answer}
-use Rattle.gh_world.specs.Turns.{Follows}
-use Rattle.gh_world.specs.World.{AreTurns}
+use Rattle.gh_run.proofs.Vocabulary.{Answer, AreTurns, Follows}
 use Rattle.gh_run.proofs.Fitting.{due_may}
 use Rattle.gh_run.proofs.Turns.{between_then, has_room}
 use Rattle.gh_run.proofs.turning.take_turn.Goals as goal

@@ -1,5 +1,5 @@
 use Rattle.std.proofs.Common.{◌∙◌, refl, sym}
-use Rattle.gh_shared.specs.Handles.{number_of}
+use Rattle.gh_run.proofs.Vocabulary.{number_of}
 use Rattle.gh_run.proofs.Starting.{between_first, ended_then}
 use Rattle.gh_run.proofs.turning.take_turns.Goals as goal
 

@@ -1,7 +1,5 @@
 use Rattle.std.proofs.Common.{◌≡◌}
-use Rattle.std.specs.Vec.{vec_capacity}
-use Rattle.gh_run.specs.Jobs.{IsBetweenTurns}
-use Rattle.gh_shared.specs.Handles.{number_of}
+use Rattle.gh_run.proofs.Vocabulary.{IsBetweenTurns, number_of, vec_capacity}
 use Rattle.gh_run.proofs.turning.take_turns.Given as goal
 
 abbrev pub invariant-loop : goal.invariant-loop

@@ -1,4 +1,4 @@
-use Rattle.gh_base.specs.Packing.{page_of}
+use Rattle.gh_scan.proofs.Vocabulary.{page_of}
 use Rattle.gh_scan.proofs.Objects.{scans}
 use Rattle.gh_scan.proofs.Slots.{some_word}
 use Rattle.gh_scan.proofs.laws.objects_are_scanned.Goals as goal

@@ -1,5 +1,5 @@
 use Rattle.std.proofs.Common.{◌≡◌}
-use Rattle.gh_scan.specs.Listing.{next_from}
+use Rattle.gh_scan.proofs.Vocabulary.{next_from}
 use Rattle.gh_scan.proofs.scan.next_from.Given as goal
 
 abbrev pub invariant-loop-x : goal.invariant-loop-x

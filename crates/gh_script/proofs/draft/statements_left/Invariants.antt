@@ -1,6 +1,5 @@
 use Rattle.std.proofs.Common.{◌≡◌, ◌+◌, take}
-use Rattle.std.specs.List.{sum_by}
-use Rattle.gh_script.specs.Program.{statements_in}
+use Rattle.gh_script.proofs.Vocabulary.{statements_in, sum_by}
 use Rattle.gh_script.proofs.draft.statements_left.Given as goal
 
 abbrev pub invariant-loop-g : goal.invariant-loop-g

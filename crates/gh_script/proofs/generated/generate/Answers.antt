@@ -1,5 +1,5 @@
 use Rattle.std.proofs.Common.{◌≡◌, ℕ, ◌∙◌, ap, arith}
-use Rattle.gh_script.specs.Generated.{text_of}
+use Rattle.gh_script.proofs.Vocabulary.{text_of}
 use Rattle.gh_script.proofs.Writing.{all_written, begun_written, first_state, lines_before, next_state, next_written}
 use Rattle.gh_script.proofs.generated.generate.Goals as goal
 

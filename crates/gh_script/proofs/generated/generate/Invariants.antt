@@ -1,5 +1,5 @@
 use Rattle.std.proofs.Common.{◌≡◌, ◌*◌, ◌/◌}
-use Rattle.gh_script.specs.Generated.{state_behind, text_of}
+use Rattle.gh_script.proofs.Vocabulary.{state_behind, text_of}
 use Rattle.gh_script.proofs.Writing.{lines_before}
 use Rattle.gh_script.proofs.generated.generate.Given as goal
 

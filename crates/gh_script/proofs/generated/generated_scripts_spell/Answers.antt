@@ -1,4 +1,4 @@
-use Rattle.gh_script.specs.Generated.{generated_program, generated_text}
+use Rattle.gh_script.proofs.Vocabulary.{generated_program, generated_text}
 use Rattle.gh_script.proofs.GeneratedForm.{generated_form}
 use Rattle.gh_script.proofs.generated.generated_scripts_spell.Goals as goal
 

@@ -1,4 +1,4 @@
-use Rattle.gh_script.specs.Generated.{statements_drawn}
+use Rattle.gh_script.proofs.Vocabulary.{statements_drawn}
 use Rattle.gh_script.proofs.Writing.{goroutine_ended}
 use Rattle.gh_script.proofs.generated.put_goroutine.Goals as goal
 

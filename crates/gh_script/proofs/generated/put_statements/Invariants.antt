@@ -1,5 +1,5 @@
 use Rattle.std.proofs.Common.{◌≡◌, ◌++◌, map}
-use Rattle.gh_script.specs.Generated.{state_behind, statement_words, statements_drawn, text_of}
+use Rattle.gh_script.proofs.Vocabulary.{state_behind, statement_words, statements_drawn, text_of}
 use Rattle.gh_script.proofs.generated.put_statements.Given as goal
 
 -- the lines of the words so far stand behind the text as it was

@@ -1,5 +1,5 @@
 use Rattle.std.proofs.Common.{◌≡◌, ◌++◌, drop}
-use Rattle.std.specs.List.{repeat}
+use Rattle.gh_script.proofs.Vocabulary.{repeat}
 use Rattle.gh_script.proofs.goroutine.repeat_from.Given as goal
 
 abbrev pub invariant-loop-k : goal.invariant-loop-k

@@ -1,5 +1,5 @@
 use Rattle.std.proofs.Common.{arith}
-use Rattle.gh_script.specs.Text.{is_blank}
+use Rattle.gh_script.proofs.Vocabulary.{is_blank}
 use Rattle.gh_script.proofs.Pieces.{met_nowhere}
 use Rattle.gh_script.proofs.line.blank_index.Goals as goal
 

@@ -1,5 +1,5 @@
 use Rattle.std.proofs.Common.{◌≡◌, ℕ, ◌<◌, false, get_or}
-use Rattle.gh_script.specs.Text.{is_blank}
+use Rattle.gh_script.proofs.Vocabulary.{is_blank}
 use Rattle.gh_script.proofs.line.blank_index.Given as goal
 
 abbrev pub invariant-loop-i : goal.invariant-loop-i

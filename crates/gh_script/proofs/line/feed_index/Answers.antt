@@ -1,5 +1,5 @@
 use Rattle.std.proofs.Common.{arith}
-use Rattle.gh_script.specs.Text.{is_feed}
+use Rattle.gh_script.proofs.Vocabulary.{is_feed}
 use Rattle.gh_script.proofs.Pieces.{met_nowhere}
 use Rattle.gh_script.proofs.line.feed_index.Goals as goal
 

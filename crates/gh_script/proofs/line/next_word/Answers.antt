@@ -1,5 +1,5 @@
 use Rattle.std.proofs.Common.{drop, take, length, ◌-◌}
-use Rattle.std.proofs.lemmas.List.{take_rest}
+use Rattle.gh_script.proofs.Vocabulary.{take_rest}
 use Rattle.gh_script.proofs.Pieces.{words_of-next, empty_word}
 use Rattle.gh_script.proofs.line.next_word.Goals as goal
 

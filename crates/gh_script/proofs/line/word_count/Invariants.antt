@@ -1,5 +1,5 @@
 use Rattle.std.proofs.Common.{◌≡◌, ◌+◌, ◌≤◌, length}
-use Rattle.gh_script.specs.Text.{words_of}
+use Rattle.gh_script.proofs.Vocabulary.{words_of}
 use Rattle.gh_script.proofs.line.word_count.Given as goal
 
 abbrev pub invariant-words : goal.invariant-words

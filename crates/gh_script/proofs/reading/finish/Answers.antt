@@ -1,6 +1,5 @@
-use Rattle.std.proofs.Common.{◌≤◌, subst, sym, ◌∙◌, arith}
-use Rattle.std.specs.Prelude.{unwrap_or}
-use Rattle.gh_script.specs.Draft.{Draft}
+use Rattle.std.proofs.Common.{◌≤◌, subst, sym, ◌∙◌, arith, unwrap_or}
+use Rattle.gh_script.proofs.Vocabulary.{Draft}
 use Rattle.gh_script.proofs.Formed.{finished}
 use Rattle.gh_script.proofs.Readings.{arena-le}
 use Rattle.gh_script.proofs.reading.finish.Goals as goal

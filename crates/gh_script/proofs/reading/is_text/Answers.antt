@@ -1,5 +1,5 @@
 use Rattle.std.proofs.Common.{sym}
-use Rattle.std.proofs.lemmas.Str.{is_utf8-from_IsUtf8}
+use Rattle.gh_script.proofs.Vocabulary.{is_utf8-from_IsUtf8}
 use Rattle.gh_script.proofs.Readings.{is_utf8-not}
 use Rattle.gh_script.proofs.reading.is_text.Goals as goal
 

@@ -1,5 +1,6 @@
 use Rattle.std.proofs.Common.{◌≡◌, ◌<◌, length, sym, ◌∙◌, arith}
-use Rattle.std.proofs.lemmas.Bool.{eqb-true, eqb-false}
+use Rattle.std.proofs.lemmas.Bool.{eqb-true}
+use Rattle.gh_script.proofs.Vocabulary.{eqb-false}
 use Rattle.gh_script.proofs.Lines.{Reading-start, Reading-more, Reading-stops, Reading-end}
 use Rattle.gh_script.proofs.reading.lines.Goals as goal
 

@@ -1,7 +1,5 @@
-use Rattle.std.proofs.Common.{◌≡◌, ◌∙◌, ap, arith}
-use Rattle.std.specs.Prelude.{unwrap_or}
-use Rattle.gh_script.specs.Draft.{type_of}
-use Rattle.gh_script.specs.Said.{said}
+use Rattle.std.proofs.Common.{◌≡◌, ◌∙◌, ap, arith, unwrap_or}
+use Rattle.gh_script.proofs.Vocabulary.{said, type_of}
 use Rattle.gh_script.proofs.Allowed.{load_small, store_small, get_small, set_small, globals_in-le, type_of-lt}
 use Rattle.gh_script.proofs.saying.statement.Goals as goal
 

@@ -1,4 +1,4 @@
-use Rattle.gh_script.specs.ShapeText.{has_count, are_counts}
+use Rattle.gh_script.proofs.Vocabulary.{are_counts, has_count}
 use Rattle.gh_script.proofs.Items.{all_end}
 use Rattle.gh_script.proofs.shape_text.are_counts.Goals as goal
 

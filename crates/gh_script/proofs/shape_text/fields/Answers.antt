@@ -1,4 +1,4 @@
-use Rattle.gh_script.specs.ShapeText.{fields_of}
+use Rattle.gh_script.proofs.Vocabulary.{fields_of}
 use Rattle.gh_script.proofs.Items.{spread-end}
 use Rattle.gh_script.proofs.shape_text.fields.Goals as goal
 

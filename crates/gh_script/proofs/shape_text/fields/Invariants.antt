@@ -1,5 +1,5 @@
 use Rattle.std.proofs.Common.{◌≡◌, ◌++◌, drop}
-use Rattle.gh_script.specs.ShapeText.{items_of, spread}
+use Rattle.gh_script.proofs.Vocabulary.{items_of, spread}
 use Rattle.gh_script.proofs.shape_text.fields.Given as goal
 
 abbrev pub invariant-loop-i : goal.invariant-loop-i

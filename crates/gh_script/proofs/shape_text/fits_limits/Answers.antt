@@ -1,5 +1,5 @@
 use Rattle.std.proofs.Common.{sym, ◌∙◌}
-use Rattle.gh_script.specs.ShapeText.{fits_limits}
+use Rattle.gh_script.proofs.Vocabulary.{fits_limits}
 use Rattle.gh_script.proofs.Items.{fits_behind-end}
 use Rattle.gh_script.proofs.shape_text.fits_limits.Goals as goal
 

@@ -1,6 +1,5 @@
 use Rattle.std.proofs.Common.{◌≡◌, ◌≤◌, drop}
-use Rattle.gh_class.specs.declared.class.TheConstants.{MOST_TYPE_WORDS}
-use Rattle.gh_script.specs.ShapeText.{items_of, fits_behind}
+use Rattle.gh_script.proofs.Vocabulary.{fits_behind, items_of, MOST_TYPE_WORDS}
 use Rattle.gh_script.proofs.shape_text.fits_limits.Given as goal
 
 abbrev pub invariant-loop-i : goal.invariant-loop-i

@@ -1,4 +1,4 @@
-use Rattle.gh_script.specs.ShapeText.{has_no_stray}
+use Rattle.gh_script.proofs.Vocabulary.{has_no_stray}
 use Rattle.gh_script.proofs.Items.{all_end}
 use Rattle.gh_script.proofs.shape_text.have_no_stray.Goals as goal
 

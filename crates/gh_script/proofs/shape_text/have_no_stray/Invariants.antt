@@ -1,6 +1,5 @@
 use Rattle.std.proofs.Common.{◌≡◌, drop}
-use Rattle.std.specs.List.{list_all}
-use Rattle.gh_script.specs.ShapeText.{items_of, has_no_stray}
+use Rattle.gh_script.proofs.Vocabulary.{has_no_stray, items_of, list_all}
 use Rattle.gh_script.proofs.shape_text.have_no_stray.Given as goal
 
 abbrev pub invariant-loop-i : goal.invariant-loop-i

@@ -1,5 +1,5 @@
 use Rattle.std.proofs.Common.{◌+◌, sym, ◌∙◌}
-use Rattle.std.proofs.lemmas.List.{take_rest}
+use Rattle.gh_script.proofs.Vocabulary.{take_rest}
 use Rattle.gh_script.proofs.Items.{items_of-other, items_of-kind}
 use Rattle.gh_script.proofs.shape_text.item_at.Goals as goal
 

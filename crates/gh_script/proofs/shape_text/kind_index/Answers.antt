@@ -1,5 +1,5 @@
 use Rattle.std.proofs.Common.{arith}
-use Rattle.gh_script.specs.ShapeText.{is_kind}
+use Rattle.gh_script.proofs.Vocabulary.{is_kind}
 use Rattle.gh_script.proofs.Pieces.{met_nowhere}
 use Rattle.gh_script.proofs.shape_text.kind_index.Goals as goal
 

@@ -1,5 +1,5 @@
 use Rattle.std.proofs.Common.{◌≡◌, ℕ, ◌<◌, false, get_or}
-use Rattle.gh_script.specs.ShapeText.{is_kind}
+use Rattle.gh_script.proofs.Vocabulary.{is_kind}
 use Rattle.gh_script.proofs.shape_text.kind_index.Given as goal
 
 abbrev pub invariant-loop-i : goal.invariant-loop-i

@@ -1,6 +1,5 @@
 use Rattle.std.proofs.Common.{◌≡◌, ◌*◌, map, take, drop}
-use Rattle.std.specs.List.{range_with_len}
-use Rattle.gh_script.specs.ShapeText.{bits_as_number}
+use Rattle.gh_script.proofs.Vocabulary.{bits_as_number, range_with_len}
 use Rattle.gh_script.proofs.shape_text.packed.Given as goal
 
 abbrev pub invariant-loop-i : goal.invariant-loop-i

@@ -1,5 +1,5 @@
 use Rattle.std.proofs.Common.{ℕ, ◌*◌, ◌-◌, length, take, drop, refl, ap, ◌∙◌}
-use Rattle.gh_script.specs.ShapeText.{bits_as_number}
+use Rattle.gh_script.proofs.Vocabulary.{bits_as_number}
 use Rattle.gh_script.proofs.Packing.{word_of-cut}
 use Rattle.gh_script.proofs.shape_text.packed_word.Goals as goal
 

@@ -1,5 +1,5 @@
 use Rattle.std.proofs.Common.{sym, ◌∙◌, ◌≡◌, arith}
-use Rattle.gh_script.specs.ShapeText.{fields_in}
+use Rattle.gh_script.proofs.Vocabulary.{fields_in}
 use Rattle.gh_script.specs.ShapeSaid.{item_seen}
 use Rattle.gh_script.proofs.Items.{fits_behind-empty, fits_behind-wide, fits_behind-more}
 use Rattle.gh_script.proofs.shape_text.total_past.Goals as goal

@@ -1,5 +1,5 @@
-use Rattle.gh_script.proofs.shape_text.word_of_fields.Goals as goal
 use Rattle.std.proofs.Common.{◌≡◌, length, arith, false, cond, get_or, ◌-◌, ◌+◌, ◌*◌, ap, ◌∙◌}
+use Rattle.gh_script.proofs.shape_text.word_of_fields.Goals as goal
 use Rattle.gh_script.proofs.Packing.{word_of-end, word_of-more, word_of-small, bit_small, from_bool-is}
 
 pub loop-i-init : goal.loop-i-init

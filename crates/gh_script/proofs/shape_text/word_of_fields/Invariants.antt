@@ -1,5 +1,5 @@
 use Rattle.std.proofs.Common.{◌≡◌, ◌≤◌, drop, length}
-use Rattle.gh_script.specs.ShapeText.{bits_as_number}
+use Rattle.gh_script.proofs.Vocabulary.{bits_as_number}
 use Rattle.gh_script.proofs.shape_text.word_of_fields.Given as goal
 
 abbrev pub invariant-loop-i : goal.invariant-loop-i

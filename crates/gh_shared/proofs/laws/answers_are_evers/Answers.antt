@@ -1,11 +1,6 @@
 use Rattle.std.proofs.Common.{ap, Option, subst, sym, ◌∙◌, ◌++◌}
 use Rattle.std.specs.Option.{option_to_list}
-use Rattle.gh_base.specs.declared.value.Answer.{Answer}
-use Rattle.gh_script.specs.Program.{Program, WellFormed}
-use Rattle.gh_lists.specs.Processors.{arena_of, given_of}
-use Rattle.gh_world.specs.World.{LaysOut}
-use Rattle.gh_shared.specs.Handles.{plan_of}
-use Rattle.gh_actor.specs.Plans.{setting}
+use Rattle.gh_shared.proofs.Vocabulary.{Answer, arena_of, given_of, LaysOut, plan_of, Program, setting, WellFormed}
 use Rattle.gh_shared.proofs.laws.answers_are_evers.Goals as goal
 
 pub returns-clause-stands : goal.returns-clause-stands

@@ -1,11 +1,7 @@
 use Rattle.std.proofs.Common.{◌≡◌, ℕ, sym, subst, ◌∙◌}
-use Rattle.gh_generated.specs.Orders.{ever_left_by}
-use Rattle.gh_model.specs.Ever.{Ever}
+use Rattle.gh_soak.proofs.Vocabulary.{acted_in, AreLive, Ever, ever_left_by, ever_of, ops_of}
 use Rattle.gh_script.specs.Generated.{generated_program}
 use Rattle.gh_soak.specs.Soak.{one_after_another}
-use Rattle.gh_world.specs.Cycles.{AreLive}
-use Rattle.gh_lists.specs.Order.{acted_in, ever_of}
-use Rattle.gh_world.specs.Points.{ops_of}
 use Rattle.gh_soak.proofs.laws.soaks_tell_one_heap.Goals as goal
 
 pub returns : goal.returns

@@ -1,6 +1,5 @@
 use Rattle.std.proofs.Common.{arith}
-use Rattle.std.proofs.Math.Nat.{mod-lt}
-use Rattle.std.proofs.lemmas.Bool.Decides.{nat_tests}
+use Rattle.gh_sweep.proofs.Vocabulary.{mod-lt, nat_tests}
 use Rattle.gh_sweep.proofs.Bits.{few_ones}
 use Rattle.gh_sweep.proofs.laws.the_sweep_is_a_routine.Goals as goal
 

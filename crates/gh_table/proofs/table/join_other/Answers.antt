@@ -1,5 +1,5 @@
 use Rattle.std.proofs.Common.{◌∙◌, subst}
-use Rattle.gh_table.specs.Views.{Once}
+use Rattle.gh_table.proofs.Vocabulary.{Once}
 use Rattle.gh_table.proofs.Entries.{has-append}
 use Rattle.gh_table.proofs.Keeping.{joins, joined-mine, joined-its}
 use Rattle.gh_table.proofs.Seats.{once_apart}

@@ -1,4 +1,4 @@
-use Rattle.gh_base.specs.declared.cell.Ask.TheVariants.{Load}
+use Rattle.gh_table.proofs.Vocabulary.{Load}
 use Rattle.gh_table.proofs.table.load_cell.Given as goal
 
 -- the entry that the step adds

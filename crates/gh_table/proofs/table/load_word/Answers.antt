@@ -1,5 +1,5 @@
 use Rattle.std.proofs.Common.{refl, ap}
-use Rattle.gh_base.specs.declared.cell.Ask.TheVariants as ask
+use Rattle.gh_table.proofs.Vocabulary.{Ask}
 use Rattle.gh_base.specs.declared.cell.Req.TheVariants.{Load}
 use Rattle.gh_table.proofs.Keeping.{asked, NotedStep}
 use Rattle.gh_table.proofs.table.load_word.Goals as goal
@@ -18,7 +18,7 @@ load-requires g c =
       me = c.args.seat.now.me;
       actor = c.args.actor;
       begun = c.args.begun.now;
-      ask = ask.Load c.args.cell;
+      ask = Ask.Load c.args.cell;
       may = c.requires.may;
       within = c.requires.within;
       noted_actor = g.N.NextStep.actor;

@@ -1,11 +1,6 @@
-use Rattle.std.proofs.Common.{◌+◌, ◌%◌, ◌^◌, ◌==◌, refl, ◌∙◌, ap, subst}
-use Rattle.std.specs.Prelude.{bit_and, bit_or}
-use prog.Atomic.{either}
-use Rattle.gh_base.specs.declared.cell.Req.TheVariants.{Load, Store, Or, And, Add, Swap}
-use Rattle.gh_base.specs.declared.layout.Layout.{Layout}
-use Rattle.gh_base.specs.Cells.{InRange}
-use Rattle.gh_base.specs.Steps.{cell_of, request}
-use Rattle.gh_table.specs.Rule.{HoldsOneList, Tells}
+use Rattle.std.proofs.Common.{◌+◌, ◌%◌, ◌^◌, ◌==◌, refl, ◌∙◌, ap, subst, bit_and, bit_or}
+use Rattle.gh_table.proofs.Vocabulary.{Add, And, cell_of, either, HoldsOneList, InRange, Layout, Or, request, Store, Swap, Tells}
+use Rattle.gh_base.specs.declared.cell.Req.TheVariants.{Load}
 use Rattle.gh_table.proofs.Keeping.{any_found, asked, either-cond, NotedStep}
 use Rattle.gh_table.proofs.table.make_step.Goals as goal
 use Rattle.gh_table.proofs.table.make_step.Goals.{After-next}

@@ -1,8 +1,5 @@
 use Rattle.std.proofs.Common.{◌≡◌, inl, inr, Some, None, sym, ap, subst, ◌∙◌}
-use Rattle.gh_top.specs.declared.found.Found.TheVariants.{NoMemory}
-use Rattle.gh_command.specs.CommandLine.{texts}
-use Rattle.gh_top.specs.Found.{IsSilent, status_of}
-use Rattle.gh_top.specs.Outcome.{streams}
+use Rattle.gh_top.proofs.Vocabulary.{IsSilent, NoMemory, status_of, streams, texts}
 use Rattle.gh_top.proofs.Ends.{cut-ends, told-ends}
 use Rattle.gh_top.proofs.command.quiet.Goals as goal
 

@@ -1,6 +1,5 @@
 use Rattle.std.proofs.Common.{◌≡◌, inl, inr, rules, subst}
-use Rattle.gh_command.specs.CommandLine.{texts}
-use Rattle.gh_top.specs.Outcome.{Ends, IsForThreads, streams}
+use Rattle.gh_top.proofs.Vocabulary.{Ends, IsForThreads, streams, texts}
 use Rattle.gh_top.proofs.Ends.{cut-ends, told-ends}
 use Rattle.gh_top.proofs.Soaking.{soak_told}
 use Rattle.gh_top.proofs.command.top.Goals as goal

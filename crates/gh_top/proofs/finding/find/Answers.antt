@@ -1,7 +1,5 @@
 use Rattle.std.proofs.Common.{◌≡◌, Some, inl, arith, rules}
-use Rattle.gh_command.specs.declared.line.Line.TheVariants.{Gen}
-use Rattle.gh_command.specs.CommandLine.{command_line, texts}
-use Rattle.gh_top.specs.Found.{MatchesLine}
+use Rattle.gh_top.proofs.Vocabulary.{command_line, Gen, MatchesLine, texts}
 use Rattle.gh_top.proofs.Reading.{for_all_words, gen-not-run, unread}
 use Rattle.gh_top.proofs.finding.find.Goals as goal
 

@@ -1,6 +1,5 @@
 use Rattle.std.proofs.Common.{◌≡◌, ◌+◌, ◌∙◌, IfSome, ap, arith, subst, take}
-use Rattle.gh_script.specs.declared.reading.TheConstants.{MOST_BYTES}
-use Rattle.gh_script.specs.Grammar.{reading_of}
+use Rattle.gh_top.proofs.Vocabulary.{MOST_BYTES, reading_of}
 use Rattle.gh_top.proofs.Texts.{end-told, script-same, spelled-short}
 use Rattle.gh_top.proofs.finding.read_script.Goals as goal
 

@@ -1,5 +1,5 @@
 use Rattle.std.proofs.Common.{ℕ, Err, ap, subst, ◌∙◌}
-use Rattle.gh_replay.specs.Replayed.{IsUnfinished}
+use Rattle.gh_top.proofs.Vocabulary.{IsUnfinished}
 use Rattle.gh_top.proofs.finding.replay_script.Goals as goal
 
 pub returns-in-Err-OutOfTurns-clause-found : goal.returns-in-Err-OutOfTurns-clause-found

@@ -1,5 +1,5 @@
 use Rattle.std.proofs.Common.{◌≡◌, Some, slice_get, ap, sym, ◌∙◌, arith}
-use Rattle.gh_replay.specs.Report.{is_checked, replay_lines}
+use Rattle.gh_top.proofs.Vocabulary.{is_checked, replay_lines}
 use Rattle.gh_top.proofs.Lines.{told-more, told-part, on-err}
 use Rattle.gh_top.proofs.saying.say_report.Goals as goal
 

@@ -1,7 +1,5 @@
 use Rattle.std.proofs.Common.{◌≡◌, ◌≤◌, length, take}
-use Rattle.std.specs.List.{concat}
-use Rattle.std.specs.Io.KnownBytes.{Appends}
-use Rattle.gh_replay.specs.Report.{is_checked, replay_lines}
+use Rattle.gh_top.proofs.Vocabulary.{Appends, concat, is_checked, replay_lines}
 use Rattle.gh_top.proofs.saying.say_report.Given as goal
 
 abbrev pub invariant-loop-i : goal.invariant-loop-i

@@ -1,6 +1,5 @@
 use Rattle.std.proofs.Common.{◌≡◌, subst, ◌∙◌}
-use Rattle.gh_io.specs.Streams.{TookPart}
-use Rattle.gh_lines.specs.Text.{live_line, statements_line}
+use Rattle.gh_top.proofs.Vocabulary.{live_line, statements_line, TookPart}
 use Rattle.gh_top.proofs.Lines.{both-part, both-told, err-map, ok-map, on-err}
 use Rattle.gh_top.proofs.saying.say_soaked.Goals as goal
 

@@ -1,7 +1,5 @@
 use Rattle.std.proofs.Common.{◌≡◌, ◌≤◌, Some, inr, arith, rules}
-use Rattle.gh_command.specs.declared.line.Line.TheVariants.{Soak}
-use Rattle.gh_command.specs.CommandLine.{command_line, texts}
-use Rattle.gh_top.specs.Found.{MatchesLine}
+use Rattle.gh_top.proofs.Vocabulary.{command_line, MatchesLine, Soak, texts}
 use Rattle.gh_top.proofs.Reading.{for_all_words, soak-not-run, unread}
 use Rattle.gh_top.proofs.threads.find_by_threads.Goals as goal
 

@@ -1,5 +1,5 @@
 use Rattle.std.proofs.Common.{ap, ◌∙◌}
-use Rattle.gh_lines.specs.Text.{answers_by}
+use Rattle.gh_top.proofs.Vocabulary.{answers_by}
 use Rattle.gh_top.proofs.threads.reported.Goals as goal
 
 pub returns-clause-explained : goal.returns-clause-explained

@@ -1,5 +1,4 @@
-use Rattle.std.proofs.Common.{◌∙◌, arith}
-use Rattle.std.proofs.Common.{None}
+use Rattle.std.proofs.Common.{◌∙◌, arith, None}
 use Rattle.gh_tri.proofs.Opens.{row-in, placed-more}
 use Rattle.gh_tri.proofs.table.place.Goals as goal
 

@@ -1,6 +1,5 @@
 use Rattle.std.proofs.Common.{◌≡◌, None, drop}
-use Rattle.gh_tri.specs.Tables.{cells}
-use Rattle.gh_tri.specs.Opening.{put_in_table}
+use Rattle.gh_tri.proofs.Vocabulary.{cells, put_in_table}
 use Rattle.gh_tri.proofs.table.place.Given as goal
 
 -- what is placed so far, and then the others, is all that is placed

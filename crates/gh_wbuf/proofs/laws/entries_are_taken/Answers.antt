@@ -1,4 +1,4 @@
-use Rattle.gh_wbuf.specs.EntryTaking.{transitions}
+use Rattle.gh_wbuf.proofs.Vocabulary.{transitions}
 use Rattle.gh_wbuf.proofs.Entries.{takes}
 use Rattle.gh_wbuf.proofs.laws.entries_are_taken.Goals as goal
 

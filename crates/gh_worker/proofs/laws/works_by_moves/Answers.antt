@@ -1,4 +1,4 @@
-use Rattle.gh_worker.proofs.MarkShades.{works-by-moves}
+use Rattle.gh_worker.proofs.MarkSteps.{works-by-moves}
 use Rattle.gh_worker.proofs.laws.works_by_moves.Goals as goal
 
 pub returns : goal.returns

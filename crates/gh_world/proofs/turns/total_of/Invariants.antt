@@ -1,6 +1,5 @@
 use Rattle.std.proofs.Common.{◌≡◌, ◌≤◌, length, take}
-use Rattle.std.specs.List.{sum_by}
-use Rattle.gh_script.specs.Program.{statements_in}
+use Rattle.gh_world.proofs.Vocabulary.{statements_in, sum_by}
 use Rattle.gh_world.proofs.turns.total_of.Given as goal
 
 abbrev pub invariant-loop-g : goal.invariant-loop-g

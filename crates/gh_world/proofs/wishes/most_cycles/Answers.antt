@@ -1,7 +1,5 @@
 use Rattle.std.proofs.Common.{arith}
-use Rattle.gh_world.specs.Wishes.{wishes_in}
-use Rattle.std.proofs.lemmas.List.Sums.{sum_by_more_le, sum_by-take-le}
-use Rattle.gh_script.specs.Program.{no_goroutine}
+use Rattle.gh_world.proofs.Vocabulary.{no_goroutine, sum_by-take-le, sum_by_more_le, wishes_in}
 use Rattle.gh_world.proofs.Wishing.{few_wishes}
 use Rattle.gh_world.proofs.wishes.most_cycles.Goals as goal
 

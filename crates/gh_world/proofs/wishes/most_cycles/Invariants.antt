@@ -1,6 +1,5 @@
 use Rattle.std.proofs.Common.{◌≡◌, ◌≤◌, length, take}
-use Rattle.std.specs.List.{sum_by}
-use Rattle.gh_world.specs.Wishes.{wishes_in}
+use Rattle.gh_world.proofs.Vocabulary.{sum_by, wishes_in}
 use Rattle.gh_world.proofs.wishes.most_cycles.Given as goal
 
 abbrev pub invariant-loop-g : goal.invariant-loop-g

@@ -1,8 +1,6 @@
-use Rattle.std.proofs.Common.{◌≡◌, ◌+◌, ◌<◌, true, false, length, sym, ◌∙◌, ap, arith}
-use Rattle.std.specs.Prelude.{slice_get}
-use Rattle.std.proofs.lemmas.Option.{slice_get-get_or}
+use Rattle.std.proofs.Common.{◌≡◌, ◌+◌, ◌<◌, true, false, length, sym, ◌∙◌, ap, arith, slice_get}
+use Rattle.gh_world.proofs.Vocabulary.{slice_get-get_or, statements_of}
 use Rattle.gh_script.specs.declared.statement.Stmt.TheVariants.{Gc}
-use Rattle.gh_script.specs.Program.{statements_of}
 use Rattle.gh_world.proofs.Wishing.{more_wishes, statement_there}
 use Rattle.gh_world.proofs.wishes.wishes_of.Goals as goal
 use Rattle.gh_world.proofs.wishes.wishes_of.Goals.{in-Some+then-may_ask, in-Some+else-may_ask, in-None}

@@ -1,7 +1,5 @@
 use Rattle.std.proofs.Common.{◌≡◌, ◌≤◌, take}
-use Rattle.gh_world.specs.Turns.{count_of}
-use Rattle.gh_world.specs.Wishes.{wishes_among}
-use Rattle.gh_script.specs.Program.{statements_of}
+use Rattle.gh_world.proofs.Vocabulary.{count_of, statements_of, wishes_among}
 use Rattle.gh_world.proofs.wishes.wishes_of.Given as goal
 
 abbrev pub invariant-loop-n : goal.invariant-loop-n

@@ -1,6 +1,6 @@
 use Rattle.std.proofs.Common.{ℕ, ap, ◌∙◌}
+use Rattle.gh_world.proofs.Vocabulary.{Settings}
 use Rattle.gh_coord.specs.Pacing.{first_trigger}
-use Rattle.gh_script.specs.declared.statement.Settings.{Settings}
 use Rattle.gh_world.proofs.world.opening_trigger.Goals as goal
 
 pub returns : goal.returns

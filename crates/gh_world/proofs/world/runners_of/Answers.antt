@@ -1,8 +1,6 @@
 use Rattle.std.proofs.Common.{ℕ, length, ap, sym, subst, refl, arith, ◌∷◌, []}
 use Rattle.std.proofs.lemmas.List.{length-append}
-use Rattle.gh_mutator.specs.Sound.{SoundMutating}
-use Rattle.gh_world.specs.declared.runner.Runner.{Runner}
-use Rattle.gh_world.specs.World.{IsOpening}
+use Rattle.gh_world.proofs.Vocabulary.{IsOpening, Runner, SoundMutating}
 use Rattle.gh_world.proofs.Runners.{each_more}
 use Rattle.gh_world.proofs.world.runners_of.Goals as goal
 

@@ -1,9 +1,5 @@
-use Rattle.std.proofs.Common.{◌≡◌, ◌≤◌, ℕ, length, Some}
-use Rattle.std.specs.Prelude.{slice_get}
-use Rattle.std.specs.Vec.{vec_capacity}
-use Rattle.gh_mutator.specs.Sound.{SoundMutating}
-use Rattle.gh_world.specs.declared.runner.Runner.{Runner}
-use Rattle.gh_world.specs.World.{IsOpening}
+use Rattle.std.proofs.Common.{◌≡◌, ◌≤◌, ℕ, length, Some, slice_get}
+use Rattle.gh_world.proofs.Vocabulary.{IsOpening, Runner, SoundMutating, vec_capacity}
 use Rattle.gh_world.proofs.world.runners_of.Given as goal
 
 abbrev pub invariant-loop-seat : goal.invariant-loop-seat

@@ -1,7 +1,5 @@
 use Rattle.std.proofs.Common.{length, map, ap, sym, ◌∙◌, refl, arith, ◌++◌, ◌∷◌, []}
-use Rattle.std.specs.List.{range_with_len}
-use Rattle.std.proofs.lemmas.List.FromFn.{length-map-range_with_len, map-range_with_len_more}
-use Rattle.gh_worker.specs.Listing.{opening, Working}
+use Rattle.gh_world.proofs.Vocabulary.{length-map-range_with_len, map-range_with_len_more, opening, range_with_len, Working}
 use Rattle.gh_world.proofs.world.workers_of.Goals as goal
 
 pub push_reserved-requires : goal.push_reserved-requires

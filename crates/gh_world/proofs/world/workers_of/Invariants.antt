@@ -1,7 +1,5 @@
 use Rattle.std.proofs.Common.{◌≡◌, ◌≤◌, map}
-use Rattle.std.specs.List.{range_with_len}
-use Rattle.std.specs.Vec.{vec_capacity}
-use Rattle.gh_worker.specs.Listing.{opening}
+use Rattle.gh_world.proofs.Vocabulary.{opening, range_with_len, vec_capacity}
 use Rattle.gh_world.proofs.world.workers_of.Given as goal
 
 abbrev pub invariant-loop-i : goal.invariant-loop-i

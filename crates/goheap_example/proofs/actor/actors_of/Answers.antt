@@ -1,8 +1,5 @@
 use Rattle.std.proofs.Common.{[], ◌∷◌, refl}
-use Rattle.std.proofs.lemmas.List.Elements.{All-push, All-rest, All-same}
-use Rattle.std.specs.Vec.Iter.{into_iter_items}
-use Rattle.gh_shared.specs.Handles.{IsHandleOf}
-use Rattle.goheap_example.specs.Actors.{IsActorOf}
+use Rattle.goheap_example.proofs.Vocabulary.{All-push, All-rest, All-same, into_iter_items, IsActorOf, IsHandleOf}
 use Rattle.goheap_example.proofs.Each.{first_of}
 use Rattle.goheap_example.proofs.actor.actors_of.Goals as goal
 

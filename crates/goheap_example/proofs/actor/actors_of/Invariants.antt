@@ -1,7 +1,5 @@
 use Rattle.std.proofs.Common.{All}
-use Rattle.std.specs.Vec.Iter.{into_iter_items}
-use Rattle.gh_shared.specs.Handles.{IsHandleOf}
-use Rattle.goheap_example.specs.Actors.{AreOf}
+use Rattle.goheap_example.proofs.Vocabulary.{AreOf, into_iter_items, IsHandleOf}
 use Rattle.goheap_example.proofs.actor.actors_of.Given as goal
 
 abbrev pub invariant-loop-handle : goal.invariant-loop-handle

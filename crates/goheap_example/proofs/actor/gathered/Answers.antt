@@ -1,7 +1,5 @@
 use Rattle.std.proofs.Common.{Some}
-use Rattle.std.proofs.lemmas.List.Elements.{All-pop, All-rest, All-same}
-use Rattle.std.specs.Vec.Iter.{into_iter_items}
-use Rattle.gh_shared.specs.Handles.{IsHandleOf}
+use Rattle.goheap_example.proofs.Vocabulary.{All-pop, All-rest, All-same, into_iter_items, IsHandleOf}
 use Rattle.goheap_example.proofs.Each.{first_of}
 use Rattle.goheap_example.proofs.actor.gathered.Goals as goal
 

@@ -1,6 +1,5 @@
 use Rattle.std.proofs.Common.{All}
-use Rattle.std.specs.Vec.Iter.{into_iter_items}
-use Rattle.gh_shared.specs.Handles.{IsHandleOf}
+use Rattle.goheap_example.proofs.Vocabulary.{into_iter_items, IsHandleOf}
 use Rattle.goheap_example.proofs.actor.gathered.Given as goal
 
 abbrev pub invariant-loop-actor : goal.invariant-loop-actor

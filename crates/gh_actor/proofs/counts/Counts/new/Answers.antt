@@ -1,9 +1,8 @@
-use Rattle.std.proofs.Common.{◌≡◌, ◌∙◌, ◌<◌, ◌∷◌, ◌++◌, [], ℕ, Bool, false, ap, arith, length, get_or, refl, sym}
-use Rattle.std.specs.Prelude.{sum_by}
+use Rattle.std.proofs.Common.{◌≡◌, ◌∙◌, ◌<◌, ◌∷◌, ◌++◌, [], ℕ, Bool, false, ap, arith, length, get_or, refl, sym, sum_by}
 use Rattle.std.proofs.lemmas.List.{length-append}
 use Rattle.std.proofs.lemmas.List.Sums.{sum_by-append, sum_by_more, sum_by-take-le}
+use Rattle.gh_actor.proofs.Vocabulary.{wishes_in, wishes_of}
 use Rattle.gh_script.specs.Program.{no_goroutine}
-use Rattle.gh_world.specs.Wishes.{wishes_in, wishes_of}
 use Rattle.gh_actor.proofs.EachMore.{each_more}
 use Rattle.gh_actor.proofs.counts.Counts.new.Goals as goal
 

@@ -1,7 +1,6 @@
-use Rattle.std.proofs.Common.{◌≡◌, ◌≤◌, ℕ, Bool, false, length, take, Some}
-use Rattle.std.specs.Prelude.{slice_get, sum_by}
+use Rattle.std.proofs.Common.{◌≡◌, ◌≤◌, ℕ, Bool, false, length, take, Some, slice_get, sum_by}
 use Rattle.std.specs.Vec.{vec_capacity}
-use Rattle.gh_world.specs.Wishes.{wishes_in, wishes_of}
+use Rattle.gh_actor.proofs.Vocabulary.{wishes_in, wishes_of}
 use Rattle.gh_actor.proofs.counts.Counts.new.Given as goal
 
 abbrev pub invariant-loop-g : goal.invariant-loop-g

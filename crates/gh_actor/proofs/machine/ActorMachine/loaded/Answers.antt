@@ -1,10 +1,6 @@
 use Rattle.std.proofs.Common.{◌≡◌, ◌∙◌, ap, sym}
-use Rattle.gh_base.specs.declared.layout.Layout.{Layout}
-use Rattle.gh_mutator.specs.Faults.{rested}
-use Rattle.gh_mutator.specs.Mutating.{Mutating}
+use Rattle.gh_actor.proofs.Vocabulary.{Acting, Layout, Mutating, rested, Runs}
 use Rattle.gh_mutator.specs.Processor.{set_register}
-use Rattle.gh_actor.specs.declared.actor.HeapActor.TheVariants.{Runs}
-use Rattle.gh_actor.specs.Acting.{Acting}
 use Rattle.gh_actor.proofs.machine.ActorMachine.loaded.Goals as goal
 use Rattle.gh_actor.proofs.machine.ActorMachine.loaded.Goals.{in-Runs, in_default}
 

@@ -1,5 +1,5 @@
 use Rattle.std.proofs.Common.{subst}
-use Rattle.gh_alloc.specs.FindSound.{IsStage}
+use Rattle.gh_alloc.proofs.Vocabulary.{IsStage}
 use Rattle.gh_alloc.proofs.Finding.Within.{slot_found_fits}
 use Rattle.gh_alloc.proofs.find.Find.finds.Goals as goal
 

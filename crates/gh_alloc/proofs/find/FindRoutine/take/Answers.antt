@@ -1,8 +1,5 @@
 use Rattle.std.proofs.Common.{IfSome, ap, subst, sym, ◌∙◌}
-use Rattle.gh_alloc.specs.Find.{Finding, goes}
-use Rattle.gh_alloc.specs.FindSound.{Sound}
-use Rattle.gh_alloc.specs.Stays.{Base, base, goes_base}
-use Rattle.gh_alloc.specs.Within.{LiesWithin}
+use Rattle.gh_alloc.proofs.Vocabulary.{Base, base, Finding, goes, goes_base, LiesWithin, Sound}
 use Rattle.gh_alloc.proofs.find.FindRoutine.take.Goals as goal
 
 pub returns-then-goes_on-clause-sound : goal.returns-then-goes_on-clause-sound

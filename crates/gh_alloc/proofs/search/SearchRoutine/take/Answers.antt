@@ -1,8 +1,6 @@
 use Rattle.std.proofs.Common.{IfSome, ap, subst, sym, ◌∙◌}
-use Rattle.gh_alloc.specs.Search.{Seeking}
+use Rattle.gh_alloc.proofs.Vocabulary.{Base, base, LiesWithin, search_base, Seeking}
 use Rattle.gh_alloc.specs.SearchSound.{Sound}
-use Rattle.gh_alloc.specs.Stays.{Base, base, search_base}
-use Rattle.gh_alloc.specs.Within.{LiesWithin}
 use Rattle.gh_alloc.proofs.search.SearchRoutine.take.Goals as goal
 
 pub returns-clause-sound : goal.returns-clause-sound

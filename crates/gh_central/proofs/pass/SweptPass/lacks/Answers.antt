@@ -1,5 +1,5 @@
 use Rattle.std.proofs.Common.{◌≡◌, ◌+◌, ◌*◌, ◌-◌, ◌%◌, ℕ, sym, ap, ◌∙◌, arith, rules}
-use Rattle.gh_class.specs.Classes.{slots_of, slot_words_of}
+use Rattle.gh_central.proofs.Vocabulary.{slot_words_of, slots_of}
 use Rattle.gh_central.proofs.Lacking.{none_lacking}
 use Rattle.gh_central.proofs.pass.SweptPass.lacks.Goals as goal
 

@@ -1,6 +1,5 @@
 use Rattle.std.proofs.Common.{◌∙◌, ap, subst, sym}
-use Rattle.gh_coord.specs.Listing.{Coordinating, goes_at}
-use Rattle.gh_coord.specs.Sound.{SoundCoordinating}
+use Rattle.gh_coord.proofs.Vocabulary.{Coordinating, goes_at, SoundCoordinating}
 use Rattle.gh_coord.proofs.PartsRoutines.{sound_stays}
 use Rattle.gh_coord.proofs.coord.CoordRoutine.take.Goals as goal
 use Rattle.gh_coord.proofs.coord.CoordRoutine.take.Goals.{then-is_ending, else-is_ending}

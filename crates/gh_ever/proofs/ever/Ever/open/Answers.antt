@@ -1,5 +1,5 @@
 use Rattle.std.proofs.Common.{◌∙◌, ap}
-use Rattle.gh_ever.specs.Lists.{Lists, ever_of}
+use Rattle.gh_ever.proofs.Vocabulary.{ever_of, Lists}
 use Rattle.gh_ever.proofs.Empty.{opens}
 use Rattle.gh_ever.proofs.ever.Ever.open.Goals as goal
 

@@ -1,7 +1,5 @@
 use Rattle.std.proofs.Common.{◌<◌, length, arith, ap, ◌∙◌}
-use Rattle.gh_model.specs.Ever.{with_end}
-use Rattle.gh_ever.specs.Lists.{Lists, ever_of}
-use Rattle.gh_ever.specs.Inside.{lists_of}
+use Rattle.gh_ever.proofs.Vocabulary.{ever_of, Lists, lists_of, with_end}
 use Rattle.gh_ever.proofs.Ending.{end_after}
 use Rattle.gh_ever.proofs.kept.Kept.end.Goals as goal
 

@@ -1,5 +1,5 @@
 use Rattle.std.proofs.Common.{arith}
-use Rattle.gh_ever.specs.declared.cell.Place.TheVariants.{Field}
+use Rattle.gh_ever.proofs.Vocabulary.{Field}
 use Rattle.gh_ever.proofs.Reading.{found_known}
 use Rattle.gh_ever.proofs.kept.Kept.field.Goals as goal
 

@@ -1,5 +1,5 @@
 use Rattle.std.proofs.Common.{arith}
-use Rattle.gh_ever.specs.declared.cell.Place.TheVariants.{Global}
+use Rattle.gh_ever.proofs.Vocabulary.{Global}
 use Rattle.gh_ever.proofs.Reading.{read_known}
 use Rattle.gh_ever.proofs.kept.Kept.global.Goals as goal
 

@@ -1,13 +1,8 @@
 use Rattle.std.proofs.Common.{◌≡◌, ◌<◌, length, ap, arith, ◌∙◌, sym, subst}
-use Rattle.std.specs.HashMap.{spare}
-use Rattle.gh_model.specs.declared.EverValue.TheVariants.{Ref}
-use Rattle.gh_model.specs.Ever.{next_name, with_object, with_register}
-use Rattle.gh_ever.specs.Lists.{Lists, ever_of}
-use Rattle.gh_ever.specs.Applied.{IsDue}
+use Rattle.gh_ever.proofs.Vocabulary.{ever_of, IsDue, Lists, lists_of, next_name, Ref, spare, with_object, with_register}
 use Rattle.gh_ever.proofs.Closing.{make_after, make_sound}
 use Rattle.gh_ever.proofs.Putting.{where_ok}
 use Rattle.gh_ever.proofs.Writing.{sum-spent}
-use Rattle.gh_ever.specs.Inside.{lists_of}
 use Rattle.gh_ever.proofs.kept.Kept.make.Goals as goal
 
 pub returns-clause-after : goal.returns-clause-after

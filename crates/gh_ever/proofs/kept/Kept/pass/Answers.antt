@@ -1,5 +1,5 @@
 use Rattle.std.proofs.Common.{ap}
-use Rattle.gh_ever.specs.Lists.{Lists, ever_of}
+use Rattle.gh_ever.proofs.Vocabulary.{ever_of, Lists}
 use Rattle.gh_ever.proofs.kept.Kept.pass.Goals as goal
 
 pub returns-clause-after : goal.returns-clause-after

@@ -1,5 +1,5 @@
 use Rattle.std.proofs.Common.{arith}
-use Rattle.gh_ever.specs.declared.cell.Place.TheVariants.{Register}
+use Rattle.gh_ever.proofs.Vocabulary.{Register}
 use Rattle.gh_ever.proofs.Reading.{read_known}
 use Rattle.gh_ever.proofs.kept.Kept.register.Goals as goal
 

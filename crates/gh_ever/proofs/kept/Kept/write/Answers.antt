@@ -1,9 +1,6 @@
 use Rattle.std.proofs.Common.{ap, ◌∙◌, sym, subst}
-use Rattle.gh_ever.specs.Objects.{IsInKnown, IsKnown}
-use Rattle.gh_ever.specs.Lists.{Lists, ever_of}
-use Rattle.gh_ever.specs.Applied.{IsDue, with_value}
+use Rattle.gh_ever.proofs.Vocabulary.{ever_of, IsDue, IsInKnown, IsKnown, Lists, lists_of, with_value}
 use Rattle.gh_ever.proofs.Closing.{write_after, write_sound}
-use Rattle.gh_ever.specs.Inside.{lists_of}
 use Rattle.gh_ever.proofs.kept.Kept.write.Goals as goal
 
 pub returns-clause-after : goal.returns-clause-after

@@ -1,14 +1,7 @@
 use Rattle.std.proofs.Common.{ap, sym, ◌∙◌, subst, Some}
-use Rattle.gh_mutator.specs.declared.task.Task.{Task}
-use Rattle.gh_mutator.specs.declared.task.Task.TheVariants.{Idle}
-use Rattle.gh_poll.specs.Local.{with_register_value}
-use Rattle.gh_mutator.specs.Mutating.{is_busy, Mutating}
-use Rattle.gh_mutator.specs.Processing.{Processor}
-use Rattle.gh_mutator.specs.Serving.{has_left_at}
-use Rattle.gh_mutator.specs.Sound.{Sound, SoundMutating}
+use Rattle.gh_mutator.proofs.Vocabulary.{has_left_at, Idle, is_busy, Mutating, Processor, register_fits, Sound, SoundMutating, Task, with_register_value}
 use Rattle.gh_mutator.proofs.Changes.{taken}
 use Rattle.gh_mutator.proofs.Idle.{idle_is}
-use Rattle.gh_poll.proofs.Caching.{register_fits}
 use Rattle.gh_mutator.proofs.mutator.Mutator.loaded.Goals as goal
 
 pub returns-clause-sound : goal.returns-clause-sound

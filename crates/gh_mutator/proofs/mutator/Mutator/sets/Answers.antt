@@ -1,16 +1,9 @@
 use Rattle.std.proofs.Common.{◌≡◌, ℕ, refl, ap, sym, subst, ◌∙◌}
-use Rattle.gh_base.specs.declared.value.Value.{Value}
-use Rattle.gh_mutator.specs.Mutating.{is_busy, Mutating}
-use Rattle.gh_mutator.specs.Processing.{Processor}
-use Rattle.gh_mutator.specs.Processor.{set_register}
+use Rattle.gh_mutator.proofs.Vocabulary.{Idle, is_busy, Mutating, Processor, register_fits, set_register, Sound, SoundMutating, SoundPolling, Value}
 use Rattle.gh_mutator.specs.Register.{begins}
-use Rattle.gh_mutator.specs.Sound.{Sound, SoundMutating}
 use Rattle.gh_mutator.specs.declared.register.Source.TheVariants.{Int, Move, Nil}
-use Rattle.gh_mutator.specs.declared.task.Task.TheVariants.{Idle}
 use Rattle.gh_mutator.proofs.Idle.{idle_is}
 use Rattle.gh_mutator.proofs.Soundness.{set_sound}
-use Rattle.gh_poll.proofs.Caching.{register_fits}
-use Rattle.gh_poll.specs.PollSound.{SoundPolling}
 use Rattle.gh_mutator.proofs.mutator.Mutator.sets.Goals as goal
 use Rattle.gh_mutator.proofs.mutator.Mutator.sets.Goals.{in-Int, in-Move, in-Nil}
 

@@ -1,6 +1,5 @@
 use Rattle.std.proofs.Common.{sym, subst}
-use Rattle.gh_mutator.specs.Mutating.{Mutating}
-use Rattle.gh_mutator.specs.Sound.{SoundMutating}
+use Rattle.gh_mutator.proofs.Vocabulary.{Mutating, SoundMutating}
 use Rattle.gh_mutator.proofs.mutator.Mutator.waits.Goals as goal
 
 pub returns-clause-sound : goal.returns-clause-sound

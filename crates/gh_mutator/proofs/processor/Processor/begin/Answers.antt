@@ -1,6 +1,5 @@
 use Rattle.std.proofs.Common.{rules, sym, subst}
-use Rattle.gh_mutator.specs.Processing.{Processor}
-use Rattle.gh_mutator.specs.Sound.{Sound}
+use Rattle.gh_mutator.proofs.Vocabulary.{Processor, Sound}
 use Rattle.gh_mutator.proofs.ClassFacts.{ClassLaws}
 use Rattle.gh_mutator.proofs.Soundness.{begins_global, begins_new}
 use Rattle.gh_mutator.proofs.processor.Processor.begin.Goals as goal

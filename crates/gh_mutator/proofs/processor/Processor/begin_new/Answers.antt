@@ -1,6 +1,5 @@
 use Rattle.std.proofs.Common.{sym, subst, rules}
-use Rattle.gh_mutator.specs.declared.new.Wanted.{Wanted}
-use Rattle.gh_mutator.specs.Sound.{SoundWanted}
+use Rattle.gh_mutator.proofs.Vocabulary.{SoundWanted, Wanted}
 use Rattle.gh_mutator.proofs.ClassFacts.{ClassLaws, wanted_sound}
 use Rattle.gh_mutator.proofs.processor.Processor.begin_new.Goals as goal
 

@@ -1,7 +1,5 @@
 use Rattle.std.proofs.Common.{ap, sym, subst, ◌∙◌}
-use Rattle.gh_mutator.specs.Processing.{Processor}
-use Rattle.gh_mutator.specs.Sound.{Sound}
-use Rattle.gh_mutator.specs.Tasks.{task_kept}
+use Rattle.gh_mutator.proofs.Vocabulary.{Processor, Sound, task_kept}
 use Rattle.gh_mutator.proofs.Tasks.{caches_sound, kept_sound, stays_sound}
 use Rattle.gh_mutator.proofs.processor.Processor.goes_on.Goals as goal
 use Rattle.gh_mutator.proofs.processor.Processor.goes_on.Goals.{else-goes_on-via-then-goes_on+else-is_in_span, else-goes_on-via-else-goes_on}

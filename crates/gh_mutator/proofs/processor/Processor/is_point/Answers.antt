@@ -1,9 +1,5 @@
 use Rattle.std.proofs.Common.{ap, sym, ◌∙◌}
-use Rattle.gh_mutator.specs.declared.task.Task.{Task}
-use Rattle.gh_mutator.specs.Listing.{acts_at}
-use Rattle.gh_mutator.specs.Processing.{Processor}
-use Rattle.gh_mutator.specs.Processor.{register_of}
-use Rattle.gh_mutator.specs.Serving.{is_point}
+use Rattle.gh_mutator.proofs.Vocabulary.{acts_at, is_point, Processor, register_of, Task}
 use Rattle.gh_mutator.proofs.Tasks.{direct_is, point_direct}
 use Rattle.gh_mutator.proofs.processor.Processor.is_point.Goals as goal
 

@@ -1,8 +1,5 @@
 use Rattle.std.proofs.Common.{ap, sym, subst, ◌∙◌}
-use Rattle.gh_mutator.specs.Listing.{is_made_further}
-use Rattle.gh_mutator.specs.Processing.{Processor}
-use Rattle.gh_mutator.specs.Sound.{Sound}
-use Rattle.gh_mutator.specs.Tasks.{task_kept}
+use Rattle.gh_mutator.proofs.Vocabulary.{is_made_further, Processor, Sound, task_kept}
 use Rattle.gh_mutator.proofs.Tasks.{makes_kept}
 use Rattle.gh_mutator.proofs.processor.Processor.make_on.Goals as goal
 

@@ -1,5 +1,5 @@
 use Rattle.std.proofs.Common.{sym, subst}
-use Rattle.gh_poll.specs.PollSound.{SoundPolling}
+use Rattle.gh_mutator.proofs.Vocabulary.{SoundPolling}
 use Rattle.gh_mutator.proofs.processor.Processor.opening.Goals as goal
 
 pub returns-clause-polls : goal.returns-clause-polls

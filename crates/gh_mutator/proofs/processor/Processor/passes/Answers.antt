@@ -1,11 +1,6 @@
-use Rattle.std.proofs.Common.{◌≡◌, ℕ, Bool, true, false, refl, ap, sym, subst, ◌∙◌}
-use Rattle.std.specs.Prelude.{IsTrue}
-use Rattle.gh_base.specs.declared.layout.Layout.{Layout}
+use Rattle.std.proofs.Common.{◌≡◌, ℕ, Bool, true, false, refl, ap, sym, subst, ◌∙◌, IsTrue}
+use Rattle.gh_mutator.proofs.Vocabulary.{Layout, poll_stacks, Sound, SoundTask, Task, task_kept}
 use Rattle.gh_poll.specs.Poll as poll
-use Rattle.gh_poll.specs.Stays.{poll_stacks}
-use Rattle.gh_mutator.specs.Sound.{Sound, SoundTask}
-use Rattle.gh_mutator.specs.Tasks.{task_kept}
-use Rattle.gh_mutator.specs.declared.task.Task.{Task}
 use Rattle.gh_mutator.proofs.processor.Processor.passes.Goals as goal
 
 -- whether it passes or not, its registers stay

@@ -1,8 +1,5 @@
 use Rattle.std.proofs.Common.{◌≡◌, false, ap, sym, ◌∙◌, rules}
-use Rattle.gh_mutator.specs.Listing.{takes, takes_at}
-use Rattle.gh_mutator.specs.Serving.{is_making}
-use Rattle.gh_mutator.specs.Processing.{Processor}
-use Rattle.gh_mutator.specs.declared.task.Task.{Task}
+use Rattle.gh_mutator.proofs.Vocabulary.{is_making, Processor, takes, takes_at, Task}
 use Rattle.gh_mutator.proofs.Soundness.{plain_next, PlainLaws}
 use Rattle.gh_mutator.proofs.Tasks.{direct_is}
 use Rattle.gh_mutator.proofs.processor.Processor.take.Goals as goal

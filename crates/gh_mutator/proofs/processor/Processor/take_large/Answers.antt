@@ -1,6 +1,5 @@
 use Rattle.std.proofs.Common.{◌≡◌, false, rules}
-use Rattle.gh_mutator.specs.Listing.{takes}
-use Rattle.gh_mutator.specs.Serving.{is_making}
+use Rattle.gh_mutator.proofs.Vocabulary.{is_making, takes}
 use Rattle.gh_mutator.proofs.Soundness.{plain_next, PlainLaws}
 use Rattle.gh_mutator.proofs.processor.Processor.take_large.Goals as goal
 

@@ -1,8 +1,5 @@
 use Rattle.std.proofs.Common.{ap, sym, subst}
-use Rattle.gh_mutator.specs.Processing.{Processor}
-use Rattle.gh_mutator.specs.Sound.{Sound}
-use Rattle.gh_mutator.specs.Tasks.{task_kept}
-use Rattle.gh_mutator.specs.declared.task.TaskAt.{TaskAt}
+use Rattle.gh_mutator.proofs.Vocabulary.{Processor, Sound, task_kept, TaskAt}
 use Rattle.gh_mutator.proofs.Soundness.{waited}
 use Rattle.gh_mutator.proofs.processor.Processor.waits.Goals as goal
 

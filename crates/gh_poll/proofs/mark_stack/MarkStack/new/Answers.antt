@@ -1,6 +1,5 @@
 use Rattle.std.proofs.Common.{◌≡◌, true, sym, subst}
-use Rattle.gh_stack.specs.Listing.{StackScan}
-use Rattle.gh_poll.specs.MarkStack.{goes_on}
+use Rattle.gh_poll.proofs.Vocabulary.{goes_on, StackScan}
 use Rattle.gh_poll.proofs.StackMarking.{begins_going}
 use Rattle.gh_poll.proofs.mark_stack.MarkStack.new.Goals as goal
 

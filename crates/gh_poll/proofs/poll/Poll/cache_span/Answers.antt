@@ -1,7 +1,5 @@
 use Rattle.std.proofs.Common.{rules, sym, subst}
-use Rattle.gh_alloc.specs.declared.sought.Sought.TheVariants.{Small}
-use Rattle.gh_alloc.specs.FindSound.{IsCached}
-use Rattle.gh_poll.specs.PollSound.{SoundPolling}
+use Rattle.gh_poll.proofs.Vocabulary.{IsCached, Small, SoundPolling}
 use Rattle.gh_poll.proofs.Caching.{recached_fits}
 use Rattle.gh_poll.proofs.poll.Poll.cache_span.Goals as goal
 

@@ -1,5 +1,5 @@
 use Rattle.std.proofs.Common.{sym, subst}
-use Rattle.gh_poll.specs.PollSound.{SoundPolling}
+use Rattle.gh_poll.proofs.Vocabulary.{SoundPolling}
 use Rattle.gh_poll.proofs.poll.Poll.leave.Goals as goal
 
 pub returns-clause-sound : goal.returns-clause-sound

@@ -1,6 +1,5 @@
 use Rattle.std.proofs.Common.{get_or, rules}
-use Rattle.std.proofs.lemmas.Option.{slice_get-get_or}
-use Rattle.gh_base.specs.declared.value.Answer.TheVariants.{Done}
+use Rattle.gh_replay.proofs.Vocabulary.{Done, slice_get-get_or}
 use Rattle.gh_replay.proofs.Taking.{one_taken}
 use Rattle.gh_replay.proofs.check.Told.take.Goals as goal
 

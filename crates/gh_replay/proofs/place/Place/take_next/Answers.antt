@@ -1,6 +1,5 @@
 use Rattle.std.proofs.Common.{sym, ◌∙◌, arith}
-use Rattle.gh_replay.specs.Places.{seen_of}
-use Rattle.gh_replay.specs.Standing.{with_actor_ended}
+use Rattle.gh_replay.proofs.Vocabulary.{seen_of, with_actor_ended}
 use Rattle.gh_replay.proofs.Choosing.{behind_there}
 use Rattle.gh_replay.proofs.place.Place.take_next.Goals as goal
 

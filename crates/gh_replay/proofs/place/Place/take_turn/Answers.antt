@@ -1,8 +1,5 @@
 use Rattle.std.proofs.Common.{◌≡◌, ℕ, zero, suc, ◌-◌, ◌<◌, Bool, false, ◌++◌, Some, refl, ap, sym, ◌∙◌, arith}
-use Rattle.std.specs.List.{range_with_len}
-use Rattle.gh_world.specs.Schedule.{first_going, turn_from}
-use Rattle.gh_replay.specs.Places.{seen_of, standing_at}
-use Rattle.gh_replay.specs.Standing.{who_at}
+use Rattle.gh_replay.proofs.Vocabulary.{first_going, range_with_len, seen_of, standing_at, turn_from, who_at}
 use Rattle.gh_replay.proofs.Choosing.{is_there, none_left}
 use Rattle.gh_replay.proofs.place.Place.take_turn.Goals as goal
 

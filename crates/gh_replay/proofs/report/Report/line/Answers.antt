@@ -1,10 +1,7 @@
-use Rattle.std.proofs.Common.{◌≡◌, ◌+◌, ◌-◌, ◌<◌, ◌≤◌, length, refl, ap, ◌∙◌, arith}
-use Rattle.std.specs.Prelude.{slice_get}
-use Rattle.std.proofs.lemmas.Option.{slice_get_read}
-use Rattle.gh_lines.specs.Text.{answer_lines, outcome_lines}
+use Rattle.std.proofs.Common.{◌≡◌, ◌+◌, ◌-◌, ◌<◌, ◌≤◌, length, refl, ap, ◌∙◌, arith, slice_get}
+use Rattle.gh_replay.proofs.Vocabulary.{answer_lines, is_checked, outcome_lines, slice_get_read}
 use Rattle.gh_replay.proofs.Checked.{behind, of_outcome}
 use Rattle.gh_replay.proofs.Rows.{all-answer, all-credit, all-cycle, all-live, all-long, rows-long, row-lined, line-at}
-use Rattle.gh_replay.specs.Report.{is_checked}
 use Rattle.gh_replay.proofs.report.Report.line.Goals as goal
 
 pub tell-told-requires-clause-goroutine : goal.tell-told-requires-clause-goroutine

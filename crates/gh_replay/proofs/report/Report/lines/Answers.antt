@@ -1,8 +1,7 @@
 use Rattle.std.proofs.Common.{◌≡◌, true, false, refl, sym, ap, ◌∙◌, arith}
-use Rattle.gh_base.specs.Packing.{bit}
+use Rattle.gh_replay.proofs.Vocabulary.{bit, is_checked}
 use Rattle.gh_replay.proofs.Checked.{lines_long}
 use Rattle.gh_replay.proofs.Rows.{all-long}
-use Rattle.gh_replay.specs.Report.{is_checked}
 use Rattle.gh_replay.proofs.report.Report.lines.Goals as goal
 
 pub returns-then-is_some : goal.returns-then-is_some

@@ -1,6 +1,5 @@
 use Rattle.std.proofs.Common.{◌≡◌, ℕ, ◌+◌, ◌++◌, length, ap, sym, ◌∙◌, arith}
-use Rattle.gh_lines.specs.Text.{answers_by}
-use Rattle.gh_replay.specs.Report.{rows_from, rows_of}
+use Rattle.gh_replay.proofs.Vocabulary.{answers_by, rows_from, rows_of}
 use Rattle.gh_replay.proofs.Rows.{count-few, count-more, rows-few, rows-more}
 use Rattle.gh_replay.proofs.report.Report.new.Goals as goal
 

@@ -1,6 +1,5 @@
 use Rattle.std.proofs.Common.{◌≡◌, ◌≤◌, length}
-use Rattle.std.specs.Vec.{vec_capacity}
-use Rattle.gh_replay.specs.Report.{rows_of}
+use Rattle.gh_replay.proofs.Vocabulary.{rows_of, vec_capacity}
 use Rattle.gh_replay.proofs.report.Report.new.Given as goal
 
 abbrev pub invariant-loop-g : goal.invariant-loop-g

@@ -1,5 +1,5 @@
 use Rattle.std.proofs.Common.{arith}
-use Rattle.gh_script.specs.Said.{said}
+use Rattle.gh_script.proofs.Vocabulary.{said}
 use Rattle.gh_script.proofs.Allowed.{setting_fits, times_fit, type_fits, name_fits}
 use Rattle.gh_script.proofs.draft.Draft.go_on.Goals as goal
 

@@ -1,6 +1,5 @@
 use Rattle.std.proofs.Common.{◌≡◌, false, take}
-use Rattle.std.specs.List.{list_any}
-use Rattle.std.specs.Str.{bytes_eq}
+use Rattle.gh_script.proofs.Vocabulary.{bytes_eq, list_any}
 use Rattle.gh_script.proofs.draft.Draft.has_goroutine.Given as goal
 
 abbrev pub invariant-loop-g : goal.invariant-loop-g

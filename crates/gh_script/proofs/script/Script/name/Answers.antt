@@ -1,6 +1,5 @@
 use Rattle.std.proofs.Common.{ℕ, List, ◌<◌, ◌≤◌, length, subst, sym}
-use Rattle.std.proofs.lemmas.List.Elements.{All-get_or}
-use Rattle.gh_script.specs.Program.{Program, IsNamed}
+use Rattle.gh_script.proofs.Vocabulary.{All-get_or, IsNamed, Program}
 use Rattle.gh_script.proofs.Names.{name_short}
 use Rattle.gh_script.proofs.script.Script.name.Goals as goal
 

@@ -1,5 +1,5 @@
 use Rattle.std.proofs.Common.{◌≡◌, ◌<◌, ℕ, false}
-use Rattle.gh_shared.specs.Handles.{runs_in}
+use Rattle.gh_shared.proofs.Vocabulary.{runs_in}
 use Rattle.gh_shared.proofs.handle.Handle.runs_none.Given as goal
 
 abbrev pub invariant-loop-g : goal.invariant-loop-g

@@ -1,11 +1,6 @@
 use Rattle.std.proofs.Common.{ℕ, ◌+◌, ◌%◌, ◌^◌, ◌∙◌, ap, subst, sym}
 use Rattle.std.specs.Slots.{slots_items}
-use Rattle.gh_table.specs.Rule.{IsAfterOneList}
-use Rattle.gh_actor.specs.Acting.{Acting}
-use Rattle.gh_shared.specs.Handles.{plan_of}
-use Rattle.gh_actor.specs.Plans.{setting}
-use Rattle.gh_shared.specs.Calls.{IsClosedAfter}
-use Rattle.gh_shared.specs.Shown.{credit_drawn, leader_of}
+use Rattle.gh_shared.proofs.Vocabulary.{Acting, credit_drawn, IsAfterOneList, IsClosedAfter, leader_of, plan_of, setting}
 use Rattle.gh_shared.proofs.Carrying.{closed_so, led_none}
 use Rattle.gh_shared.proofs.heap.Heap.close.Goals as goal
 

@@ -1,8 +1,6 @@
 use Rattle.std.proofs.Common.{◌≡◌, ◌∙◌, ◌<◌, ◌-◌, ◌+◌, ◌∷◌, [], ℕ, ap, arith, length, subst, sym}
 use Rattle.std.proofs.lemmas.List.{length-append}
-use Rattle.gh_table.specs.Views.{rest_carried}
-use Rattle.gh_shared.specs.declared.handle.Handle.{Handle}
-use Rattle.gh_shared.specs.Handles.{IsFresh}
+use Rattle.gh_shared.proofs.Vocabulary.{Handle, IsFresh, rest_carried}
 use Rattle.gh_actor.proofs.EachMore.{each_more}
 use Rattle.gh_shared.proofs.heap.Heap.deal.Goals as goal
 

@@ -1,10 +1,6 @@
-use Rattle.std.proofs.Common.{◌≡◌, ◌≤◌, ◌-◌, ℕ, [], length, Some}
-use Rattle.std.specs.Prelude.{slice_get}
+use Rattle.std.proofs.Common.{◌≡◌, ◌≤◌, ◌-◌, ℕ, [], length, Some, slice_get}
 use Rattle.std.specs.Vec.{vec_capacity}
-use Rattle.gh_table.specs.Views.{rest_carried}
-use Rattle.gh_base.specs.Cells.{seats_of}
-use Rattle.gh_shared.specs.declared.handle.Handle.{Handle}
-use Rattle.gh_shared.specs.Handles.{IsFresh}
+use Rattle.gh_shared.proofs.Vocabulary.{Handle, IsFresh, rest_carried, seats_of}
 use Rattle.gh_shared.proofs.heap.Heap.deal.Given as goal
 
 abbrev pub invariant-loop-actor : goal.invariant-loop-actor

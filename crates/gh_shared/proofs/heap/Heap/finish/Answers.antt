@@ -1,7 +1,7 @@
 use Rattle.std.proofs.Common.{arith, refl}
-use Rattle.gh_base.specs.declared.operation.Op.TheVariants as op
+use Rattle.gh_shared.proofs.Vocabulary.{Op}
 use Rattle.gh_shared.proofs.Ready.{ends_so}
 use Rattle.gh_shared.proofs.heap.Heap.finish.Goals as goal
 
 pub operate-requires-clause-ends : goal.operate-requires-clause-ends
-operate-requires-clause-ends c = ends_so c.args.h.now.hand.machine (op.End c.args.g) 1 c.operations_end.ensures c.requires.going.processor refl (λ b. omega arith)
+operate-requires-clause-ends c = ends_so c.args.h.now.hand.machine (Op.End c.args.g) 1 c.operations_end.ensures c.requires.going.processor refl (λ b. omega arith)

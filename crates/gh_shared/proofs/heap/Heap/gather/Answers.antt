@@ -1,10 +1,5 @@
 use Rattle.std.proofs.Common.{◌≡◌, ◌∙◌, ap, arith, subst, sym}
-use Rattle.gh_base.specs.Cells.{seats_of}
-use Rattle.gh_base.specs.Lists.{state_of}
-use Rattle.gh_actor.specs.Machines.{machine_actor}
-use Rattle.gh_actor.specs.Plans.{Planned, setting}
-use Rattle.gh_actor.specs.Acting.{Acting}
-use Rattle.gh_shared.specs.Shown.{CarriesSo, credit_drawn, first_of, leader_of}
+use Rattle.gh_shared.proofs.Vocabulary.{Acting, CarriesSo, credit_drawn, first_of, leader_of, machine_actor, Planned, seats_of, setting, state_of}
 use Rattle.gh_shared.proofs.Carrying.{carried_both, count_few}
 use Rattle.gh_shared.proofs.Drawing.{Joined}
 use Rattle.gh_shared.proofs.heap.Heap.gather.Goals as goal

@@ -1,11 +1,5 @@
 use Rattle.std.proofs.Common.{◌≡◌, ◌∙◌, ℕ, ap, refl, subst, sym}
-use Rattle.gh_table.specs.Rule.{actor_in}
-use Rattle.gh_table.specs.Views.{one_carried}
-use Rattle.gh_script.specs.Program.{Program}
-use Rattle.gh_actor.specs.Acting.{Acting}
-use Rattle.gh_actor.specs.Counting.{CountsFirst}
-use Rattle.gh_actor.specs.Machines.{machine_actor}
-use Rattle.gh_actor.specs.Plans.{setting}
+use Rattle.gh_shared.proofs.Vocabulary.{Acting, actor_in, CountsFirst, machine_actor, one_carried, Program, setting}
 use Rattle.gh_shared.proofs.Carrying.{carries_so}
 use Rattle.gh_shared.proofs.Fresh.{kept_so, opens_so}
 use Rattle.gh_shared.proofs.heap.Heap.handle_of.Goals as goal

@@ -1,13 +1,6 @@
 use Rattle.std.proofs.Common.{◌≡◌, ◌∙◌, ℕ, Option, Some, refl, subst, sym}
-use Rattle.gh_base.specs.declared.value.Answer.{Answer}
-use Rattle.gh_table.specs.Rule.{actor_in}
-use Rattle.gh_table.specs.Runs.{Gave}
-use Rattle.gh_base.specs.declared.layout.Layout.{Layout}
-use Rattle.gh_shared.specs.Handles.{layout_of, machine_of}
+use Rattle.gh_shared.proofs.Vocabulary.{actor_in, Answer, begins, Gave, gave_so, gives, goes, Layout, layout_of, machine_actor, machine_of, MachineMayBegin, ran_by, setting}
 use Rattle.gh_actor.specs.Acting as acting
-use Rattle.gh_actor.specs.ActingRuns.{gave_so, ran_by}
-use Rattle.gh_actor.specs.Machines.{begins, gives, goes, machine_actor, MachineMayBegin}
-use Rattle.gh_actor.specs.Plans.{setting}
 use Rattle.gh_shared.proofs.Carrying.{begins_kind, went_on}
 use Rattle.gh_shared.proofs.Ready.{has_answer, kept_after, ready, shows_then}
 use Rattle.gh_shared.proofs.heap.Heap.operate_on.Goals as goal

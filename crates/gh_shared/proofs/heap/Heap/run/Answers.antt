@@ -1,9 +1,5 @@
 use Rattle.std.proofs.Common.{◌≡◌, ◌∙◌, ℕ, None, refl, subst}
-use Rattle.gh_base.specs.Lists.{by}
-use Rattle.gh_table.specs.Rule.{actor_in}
-use Rattle.gh_actor.specs.ActingRuns.{ran_by}
-use Rattle.gh_actor.specs.Machines.{machine_actor}
-use Rattle.gh_actor.specs.Plans.{setting}
+use Rattle.gh_shared.proofs.Vocabulary.{actor_in, by, machine_actor, ran_by, setting}
 use Rattle.gh_shared.proofs.Carrying.{went_on}
 use Rattle.gh_shared.proofs.Ending.{busy_at, is_done_then, kept_on}
 use Rattle.gh_shared.proofs.heap.Heap.run.Goals as goal

@@ -1,14 +1,14 @@
 use Rattle.std.proofs.Common.{arith, refl}
-use Rattle.gh_base.specs.declared.operation.Op.TheVariants as op
+use Rattle.gh_shared.proofs.Vocabulary.{Op}
 use Rattle.gh_shared.proofs.Faults.{fault_leaves_all}
 use Rattle.gh_shared.proofs.Ready.{either_few, ends_so}
 use Rattle.gh_shared.proofs.heap.Heap.set_global.Goals as goal
 
 pub operate-requires-clause-ends : goal.operate-requires-clause-ends
-operate-requires-clause-ends c = ends_so c.args.h.now.hand.machine (op.SetGlobal c.args.g c.args.k c.args.v) 8 c.operations_end.ensures c.requires.going.processor refl (either_few 8 1 8 (omega arith) (omega arith))
+operate-requires-clause-ends c = ends_so c.args.h.now.hand.machine (Op.SetGlobal c.args.g c.args.k c.args.v) 8 c.operations_end.ensures c.requires.going.processor refl (either_few 8 1 8 (omega arith) (omega arith))
 
 pub returns-clause-fault : goal.returns-clause-fault
 returns-clause-fault c =
     let h = c.args.h.now in
     let did = c.operate.ensures in
-    fault_leaves_all c.args.self.now (op.SetGlobal c.args.g c.args.k c.args.v) h _ _ did.founds c.faults_change_nothing.ensures h.kept.rests c.requires.going.going did.did c.requires.going.processor
+    fault_leaves_all c.args.self.now (Op.SetGlobal c.args.g c.args.k c.args.v) h _ _ did.founds c.faults_change_nothing.ensures h.kept.rests c.requires.going.going did.did c.requires.going.processor

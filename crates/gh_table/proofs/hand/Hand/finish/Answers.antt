@@ -1,7 +1,5 @@
-use Rattle.std.proofs.Common.{ap, sym, ◌∙◌, subst, ℕ, ◌∷◌, [], None, refl}
-use Rattle.std.specs.Prelude.{IsNone}
-use Rattle.gh_base.specs.Routines.{Listing}
-use Rattle.gh_table.specs.Runs.{Ran}
+use Rattle.std.proofs.Common.{ap, sym, ◌∙◌, subst, ℕ, ◌∷◌, [], None, refl, IsNone}
+use Rattle.gh_table.proofs.Vocabulary.{Listing, Ran}
 use Rattle.gh_table.proofs.Running.{saw_before, saw_since, busy_now, ended_now, goes_more, left_none, none_of, ran_more}
 use Rattle.gh_table.proofs.hand.Hand.finish.Goals as goal
 

@@ -1,6 +1,5 @@
 use Rattle.std.proofs.Common.{◌≡◌, ℕ, List, None}
-use Rattle.gh_table.specs.Runs.{WentOn, Ran}
-use Rattle.gh_table.specs.Views.{BeganAsEach}
+use Rattle.gh_table.proofs.Vocabulary.{BeganAsEach, Ran, WentOn}
 use Rattle.gh_table.proofs.hand.Hand.finish.Given as goal
 
 abbrev pub invariant-loop : goal.invariant-loop

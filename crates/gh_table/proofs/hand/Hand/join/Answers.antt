@@ -1,6 +1,5 @@
 use Rattle.std.proofs.Common.{ap, sym, ◌∙◌, subst, ◌≡◌}
-use Rattle.gh_base.specs.Lists.{state_of}
-use Rattle.gh_table.specs.Views.{has}
+use Rattle.gh_table.proofs.Vocabulary.{has, state_of}
 use Rattle.gh_table.proofs.Entries.{same_state}
 use Rattle.gh_table.proofs.Running.{or_true}
 use Rattle.gh_table.proofs.hand.Hand.join.Goals as goal

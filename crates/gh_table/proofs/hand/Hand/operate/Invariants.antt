@@ -1,6 +1,5 @@
 use Rattle.std.proofs.Common.{◌≡◌, ℕ, List, length, None, Some}
-use Rattle.gh_table.specs.Runs.{WentOn, begun_next, Ran}
-use Rattle.gh_table.specs.Views.{BeganAsEach}
+use Rattle.gh_table.proofs.Vocabulary.{BeganAsEach, begun_next, Ran, WentOn}
 use Rattle.gh_table.proofs.hand.Hand.operate.Given as goal
 
 abbrev pub invariant-loop-step : goal.invariant-loop-step

@@ -1,6 +1,5 @@
-use Rattle.std.proofs.Common.{ap, sym, ◌∙◌, subst, ℕ, ◌∷◌, [], None, Some, refl}
-use Rattle.std.specs.Prelude.{IsNone}
-use Rattle.gh_table.specs.Runs.{Ran}
+use Rattle.std.proofs.Common.{ap, sym, ◌∙◌, subst, ℕ, ◌∷◌, [], None, Some, refl, IsNone}
+use Rattle.gh_table.proofs.Vocabulary.{Ran}
 use Rattle.gh_table.proofs.Running.{saw_before, saw_since, ran_more, goes_more, none_of}
 use Rattle.gh_table.proofs.hand.Hand.operate_on.Goals as goal
 

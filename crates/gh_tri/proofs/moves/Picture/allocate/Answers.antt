@@ -1,8 +1,5 @@
 use Rattle.std.proofs.Common.{◌<◌, true, None, ◌∙◌, arith}
-use Rattle.std.proofs.Math.ListN.{length-set}
-use Rattle.gh_tri.specs.declared.Colour.TheVariants.{Black}
-use Rattle.gh_tri.specs.Shown.{picture_of}
-use Rattle.gh_tri.specs.declared.Move.TheVariants.{Allocate}
+use Rattle.gh_tri.proofs.Vocabulary.{Allocate, Black, length-set, picture_of}
 use Rattle.gh_tri.proofs.Cells.{cells-past, put_row-idle}
 use Rattle.gh_tri.proofs.Showing.{put2-more, keeps-shown, colours-set, allocated}
 use Rattle.gh_tri.proofs.moves.Picture.allocate.Goals as goal

@@ -1,5 +1,5 @@
 use Rattle.std.proofs.Common.{◌≡◌, ℕ, ◌<◌, false}
-use Rattle.gh_tri.specs.Tables.{cells}
+use Rattle.gh_tri.proofs.Vocabulary.{cells}
 use Rattle.gh_tri.proofs.moves.Picture.are_all.Given as goal
 
 abbrev pub invariant-loop-r : goal.invariant-loop-r

@@ -1,5 +1,5 @@
 use Rattle.std.proofs.Common.{◌≡◌, ℕ, ◌<◌, true}
-use Rattle.gh_tri.specs.Tables.{cells}
+use Rattle.gh_tri.proofs.Vocabulary.{cells}
 use Rattle.gh_tri.proofs.moves.Picture.are_fields_scanned.Given as goal
 
 abbrev pub invariant-loop-f : goal.invariant-loop-f

@@ -1,8 +1,5 @@
 use Rattle.std.proofs.Common.{ℕ, ap, arith}
-use Rattle.gh_tri.specs.declared.Colour.{Colour}
-use Rattle.gh_tri.specs.declared.Colour.TheVariants.{Black}
-use Rattle.gh_tri.specs.Shown.{picture_of}
-use Rattle.gh_tri.specs.declared.Move.TheVariants.{Blacken}
+use Rattle.gh_tri.proofs.Vocabulary.{Black, Blacken, Colour, picture_of}
 use Rattle.gh_tri.proofs.Showing.{keeps-shown, colours-set}
 use Rattle.gh_tri.proofs.moves.Picture.blacken.Goals as goal
 

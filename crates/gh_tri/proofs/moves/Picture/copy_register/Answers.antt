@@ -1,7 +1,5 @@
 use Rattle.std.proofs.Common.{ℕ, Option, None, ap, ◌∙◌, sym}
-use Rattle.gh_tri.specs.Changes.{Copy}
-use Rattle.gh_tri.specs.Shown.{picture_of}
-use Rattle.gh_tri.specs.Tricolour.{put2}
+use Rattle.gh_tri.proofs.Vocabulary.{Copy, picture_of, put2}
 use Rattle.gh_tri.proofs.Showing.{put2-made, keeps-changed-shown}
 use Rattle.gh_tri.proofs.moves.Picture.copy_register.Goals as goal
 

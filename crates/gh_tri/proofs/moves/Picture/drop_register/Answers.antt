@@ -1,6 +1,5 @@
 use Rattle.std.proofs.Common.{ℕ, Option, None, ap}
-use Rattle.gh_tri.specs.Changes.{Drop}
-use Rattle.gh_tri.specs.Shown.{picture_of}
+use Rattle.gh_tri.proofs.Vocabulary.{Drop, picture_of}
 use Rattle.gh_tri.proofs.Showing.{put2-made, keeps-changed-shown}
 use Rattle.gh_tri.proofs.moves.Picture.drop_register.Goals as goal
 

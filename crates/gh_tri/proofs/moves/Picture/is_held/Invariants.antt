@@ -1,5 +1,5 @@
 use Rattle.std.proofs.Common.{◌≡◌, ℕ, ◌<◌, Some, None}
-use Rattle.gh_tri.specs.Tables.{cells}
+use Rattle.gh_tri.proofs.Vocabulary.{cells}
 use Rattle.gh_tri.proofs.moves.Picture.is_held.Given as goal
 
 abbrev pub invariant-loop-r : goal.invariant-loop-r

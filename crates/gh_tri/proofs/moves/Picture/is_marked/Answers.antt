@@ -1,9 +1,5 @@
-use Rattle.std.proofs.Common.{◌≡◌, ℕ, ◌≤◌, arith, true}
-use Rattle.std.specs.Prelude.{nat_lt}
-use Rattle.std.proofs.lemmas.Bool.Decides.{nat_tests}
-use Rattle.std.proofs.lemmas.List.{get_or_past}
-use Rattle.gh_tri.specs.declared.Colour.TheVariants.{White}
-use Rattle.gh_tri.specs.Shown.{picture_of}
+use Rattle.std.proofs.Common.{◌≡◌, ℕ, ◌≤◌, arith, true, nat_lt}
+use Rattle.gh_tri.proofs.Vocabulary.{get_or_past, nat_tests, picture_of, White}
 use Rattle.gh_tri.proofs.moves.Picture.is_marked.Goals as goal
 
 past : (o n : ℕ) → n ≤ o → nat_lt o n ≡ true → ⊥

@@ -1,7 +1,5 @@
 use Rattle.std.proofs.Common.{ℕ, Option, None, ap, ◌∙◌, sym}
-use Rattle.gh_tri.specs.Shown.{picture_of}
-use Rattle.gh_tri.specs.Tricolour.{put2}
-use Rattle.gh_tri.specs.declared.Move.TheVariants.{Load}
+use Rattle.gh_tri.proofs.Vocabulary.{Load, picture_of, put2}
 use Rattle.gh_tri.proofs.Showing.{put2-made, keeps-shown}
 use Rattle.gh_tri.proofs.moves.Picture.load.Goals as goal
 

@@ -1,7 +1,5 @@
 use Rattle.std.proofs.Common.{◌+◌, true, false, None, ap, ◌∙◌, sym, subst, arith}
-use Rattle.gh_tri.specs.Tables.{cells, by_three}
-use Rattle.gh_tri.specs.Shown.{picture_of}
-use Rattle.gh_tri.specs.Invariants.{IsOpeningPicture}
+use Rattle.gh_tri.proofs.Vocabulary.{by_three, cells, IsOpeningPicture, picture_of}
 use Rattle.gh_tri.proofs.Keeping.{opening-holds}
 use Rattle.gh_tri.proofs.Opens.{more-cells, cells-of, placed-first, first-made, first-empty, cells-replicate, cells-unscanned, three-same, opening-is, opens}
 use Rattle.gh_tri.proofs.moves.Picture.new.Goals as goal

@@ -1,8 +1,5 @@
 use Rattle.std.proofs.Common.{ℕ, Option, Some, None, ap, ◌∙◌, sym, arith}
-use Rattle.gh_tri.specs.Tables.{cells, by_three}
-use Rattle.gh_tri.specs.Shown.{picture_of}
-use Rattle.gh_tri.specs.Tricolour.{put3}
-use Rattle.gh_tri.specs.declared.Move.TheVariants.{ReadOld}
+use Rattle.gh_tri.proofs.Vocabulary.{by_three, cells, picture_of, put3, ReadOld}
 use Rattle.gh_tri.proofs.Cells.{three-put}
 use Rattle.gh_tri.proofs.Showing.{keeps-shown}
 use Rattle.gh_tri.proofs.moves.Picture.read_old.Goals as goal

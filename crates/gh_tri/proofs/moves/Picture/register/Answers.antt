@@ -1,5 +1,5 @@
 use Rattle.std.proofs.Common.{None, sym, ◌∙◌}
-use Rattle.gh_tri.specs.Shown.{picture_of}
+use Rattle.gh_tri.proofs.Vocabulary.{picture_of}
 use Rattle.gh_tri.proofs.moves.Picture.register.Goals as goal
 
 pub returns-clause-made : goal.returns-clause-made

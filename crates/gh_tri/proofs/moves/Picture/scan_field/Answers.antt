@@ -1,7 +1,5 @@
 use Rattle.std.proofs.Common.{◌<◌, None, ap, ◌∙◌, sym, arith}
-use Rattle.gh_tri.specs.Shown.{picture_of}
-use Rattle.gh_tri.specs.Tricolour.{shaded}
-use Rattle.gh_tri.specs.declared.Move.TheVariants.{ScanField}
+use Rattle.gh_tri.proofs.Vocabulary.{picture_of, ScanField, shaded}
 use Rattle.gh_tri.proofs.Showing.{keeps-shown, field_scanned}
 use Rattle.gh_tri.proofs.moves.Picture.scan_field.Goals as goal
 

@@ -1,7 +1,5 @@
 use Rattle.std.proofs.Common.{ap, ◌∙◌, arith}
-use Rattle.gh_tri.specs.declared.Move.TheVariants.{ScanField}
-use Rattle.gh_tri.specs.Shown.{picture_of}
-use Rattle.gh_tri.specs.Tricolour.{Tricolour, moved}
+use Rattle.gh_tri.proofs.Vocabulary.{moved, picture_of, ScanField, Tricolour}
 use Rattle.gh_tri.proofs.Scanning.{field-may, field-push, object-may, object-ends}
 use Rattle.gh_tri.proofs.moves.Picture.scan_object.Goals as goal
 

@@ -1,7 +1,5 @@
-use Rattle.gh_tri.specs.Shown.{picture_of}
-use Rattle.gh_tri.specs.Invariants.{Invariants, after}
-use Rattle.gh_tri.specs.Runs.{field_scans}
 use Rattle.std.proofs.Common.{◌≡◌}
+use Rattle.gh_tri.proofs.Vocabulary.{after, field_scans, Invariants, picture_of}
 use Rattle.gh_tri.proofs.moves.Picture.scan_object.Given as goal
 
 -- so far, the fields below f were scanned

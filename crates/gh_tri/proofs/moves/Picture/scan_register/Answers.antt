@@ -1,7 +1,5 @@
 use Rattle.std.proofs.Common.{◌<◌, false, None, ap, ◌∙◌, sym, arith}
-use Rattle.gh_tri.specs.Shown.{picture_of}
-use Rattle.gh_tri.specs.Tricolour.{shaded}
-use Rattle.gh_tri.specs.declared.Move.TheVariants.{ScanRegister}
+use Rattle.gh_tri.proofs.Vocabulary.{picture_of, ScanRegister, shaded}
 use Rattle.gh_tri.proofs.Showing.{keeps-shown, register_scanned}
 use Rattle.gh_tri.proofs.moves.Picture.scan_register.Goals as goal
 

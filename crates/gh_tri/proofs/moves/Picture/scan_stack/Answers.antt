@@ -1,7 +1,5 @@
 use Rattle.std.proofs.Common.{ap, ◌∙◌}
-use Rattle.gh_tri.specs.declared.Move.TheVariants.{ScanRegister}
-use Rattle.gh_tri.specs.Shown.{picture_of}
-use Rattle.gh_tri.specs.Tricolour.{Tricolour, moved}
+use Rattle.gh_tri.proofs.Vocabulary.{moved, picture_of, ScanRegister, Tricolour}
 use Rattle.gh_tri.proofs.Scanning.{register-may, register-push}
 use Rattle.gh_tri.proofs.moves.Picture.scan_stack.Goals as goal
 

@@ -1,7 +1,5 @@
-use Rattle.gh_tri.specs.Shown.{picture_of}
-use Rattle.gh_tri.specs.Invariants.{Invariants, after}
-use Rattle.gh_tri.specs.Runs.{register_scans}
 use Rattle.std.proofs.Common.{◌≡◌}
+use Rattle.gh_tri.proofs.Vocabulary.{after, Invariants, picture_of, register_scans}
 use Rattle.gh_tri.proofs.moves.Picture.scan_stack.Given as goal
 
 -- so far, the registers below reg were scanned

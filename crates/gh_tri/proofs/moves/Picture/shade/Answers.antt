@@ -1,7 +1,5 @@
 use Rattle.std.proofs.Common.{ℕ, ap}
-use Rattle.gh_tri.specs.declared.Colour.{Colour}
-use Rattle.gh_tri.specs.Shown.{picture_of}
-use Rattle.gh_tri.specs.declared.Move.TheVariants.{Shade}
+use Rattle.gh_tri.proofs.Vocabulary.{Colour, picture_of, Shade}
 use Rattle.gh_tri.proofs.Showing.{keeps-shown}
 use Rattle.gh_tri.proofs.moves.Picture.shade.Goals as goal
 

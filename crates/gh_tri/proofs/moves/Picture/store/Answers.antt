@@ -1,7 +1,5 @@
 use Rattle.std.proofs.Common.{None, ap, ◌∙◌, arith}
-use Rattle.gh_tri.specs.Tables.{cells, by_three}
-use Rattle.gh_tri.specs.Shown.{picture_of}
-use Rattle.gh_tri.specs.declared.Move.TheVariants.{Store}
+use Rattle.gh_tri.proofs.Vocabulary.{by_three, cells, picture_of, Store}
 use Rattle.gh_tri.proofs.Cells.{three-put}
 use Rattle.gh_tri.proofs.Showing.{put2-made, put2-empty, keeps-shown, stored}
 use Rattle.gh_tri.proofs.moves.Picture.store.Goals as goal

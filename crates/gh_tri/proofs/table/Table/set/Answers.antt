@@ -1,5 +1,5 @@
 use Rattle.std.proofs.Common.{arith}
-use Rattle.std.proofs.lemmas.Nat.{mul-add-lt}
+use Rattle.gh_tri.proofs.Vocabulary.{mul-add-lt}
 use Rattle.gh_tri.proofs.Cells.{cells-set}
 use Rattle.gh_tri.proofs.table.Table.set.Goals as goal
 

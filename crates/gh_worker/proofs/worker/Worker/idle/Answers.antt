@@ -1,7 +1,5 @@
 use Rattle.std.proofs.Common.{◌≡◌, arith, subst, sym, true}
-use Rattle.gh_worker.specs.Listing.{is_busy, loads_phase_or_page}
-use Rattle.gh_worker.specs.Sound.{SoundWorking}
-use Rattle.gh_worker.specs.Vocabulary.{WorkerStage}
+use Rattle.gh_worker.proofs.Vocabulary.{is_busy, loads_phase_or_page, SoundWorking, WorkerStage}
 use Rattle.gh_worker.proofs.worker.Worker.idle.Goals as goal
 
 busy_at : (p : WorkerStage) → loads_phase_or_page p ≡ true → is_busy p ≡ true

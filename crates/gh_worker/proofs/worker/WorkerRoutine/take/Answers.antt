@@ -1,5 +1,5 @@
 use Rattle.std.proofs.Common.{subst, sym}
-use Rattle.gh_worker.specs.Sound.{SoundWorking}
+use Rattle.gh_worker.proofs.Vocabulary.{SoundWorking}
 use Rattle.gh_worker.proofs.worker.WorkerRoutine.take.Goals as goal
 
 pub returns-clause-sound : goal.returns-clause-sound

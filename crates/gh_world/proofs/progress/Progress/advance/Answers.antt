@@ -1,8 +1,7 @@
 use Rattle.std.proofs.Common.{sym, subst}
-use Rattle.gh_world.specs.World.{AreTurns}
+use Rattle.gh_world.proofs.Vocabulary.{AreTurns, Follows, its_goroutine, Progress}
 use Rattle.gh_world.proofs.Due.{due_goroutine}
 use Rattle.gh_world.proofs.Fitting.{begun_fits, stated_fits, turns_begun}
-use Rattle.gh_world.proofs.Vocabulary.{Progress, Follows, its_goroutine}
 use Rattle.gh_world.proofs.progress.Progress.advance.Goals as goal
 
 pub count-requires-clause-there : goal.count-requires-clause-there

@@ -1,7 +1,5 @@
 use Rattle.std.proofs.Common.{◌<◌, arith}
-use Rattle.gh_base.specs.Cells.{length_of}
-use Rattle.gh_base.specs.Steps.{target}
-use Rattle.gh_world.proofs.Vocabulary.{Ask, cell_of, InRange, Layout, request}
+use Rattle.gh_world.proofs.Vocabulary.{Ask, cell_of, InRange, Layout, length_of, request, target}
 use Rattle.gh_world.proofs.runner.Runner.advance.Goals as goal
 
 target_below : (l : Layout) (a : Ask) → InRange l (cell_of a) → target (request l a) < length_of l

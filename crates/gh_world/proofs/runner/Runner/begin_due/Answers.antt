@@ -1,8 +1,7 @@
 use Rattle.std.proofs.Common.{◌≡◌, Some, sym, subst, ◌∙◌}
+use Rattle.gh_world.proofs.Vocabulary.{op_due, Progress, SoundTurns}
 use Rattle.gh_mutator.specs.Mutating.{begins}
-use Rattle.gh_world.specs.World.{SoundTurns}
 use Rattle.gh_world.proofs.Fitting.{due_room, due_sound, due_named, fit_begun}
-use Rattle.gh_world.proofs.Vocabulary.{Progress, op_due}
 use Rattle.gh_world.proofs.runner.Runner.begin_due.Goals as goal
 
 pub begin-requires-clause-op : goal.begin-requires-clause-op

@@ -1,13 +1,8 @@
 use Rattle.std.proofs.Common.{◌≡◌, ℕ, Bool, false, sym, ap, subst, ◌∙◌, Option, Some, slice_index}
-use Rattle.gh_base.specs.declared.cell.Req.{Req}
-use Rattle.gh_base.specs.declared.value.Answer.{Answer}
-use Rattle.gh_base.specs.Steps.{target}
-use Rattle.gh_mutator.specs.Mutating.{asks, begins, goes, Mutating}
-use Rattle.gh_world.specs.declared.runner.Runner.{Runner}
-use Rattle.gh_world.specs.World.{event_at, found_for, now_of}
+use Rattle.gh_world.proofs.Vocabulary.{acts, Answer, Ask, asks, cell_of, changed, event_at, found_for, goes, InRange, is_point, Mutating, now_of, Progress, progress_after, Req, request, Runner, statement_answer, target}
+use Rattle.gh_mutator.specs.Mutating.{begins}
 use Rattle.gh_world.proofs.AtOnce.{at_once}
 use Rattle.gh_world.proofs.Fitting.{due_sound}
-use Rattle.gh_world.proofs.Vocabulary.{acts, Ask, cell_of, changed, InRange, is_point, Progress, progress_after, request, statement_answer}
 use Rattle.gh_world.proofs.runner.Runner.directs.Goals as goal
 
 pub direct-requires-clause-op : goal.direct-requires-clause-op

@@ -1,7 +1,5 @@
 use Rattle.std.proofs.Common.{List, ap, subst, sym}
-use Rattle.gh_base.specs.declared.shape.Shape.{Shape}
-use Rattle.gh_mutator.specs.Mutating.{Mutating}
-use Rattle.gh_mutator.specs.Sound.{SoundMutating}
+use Rattle.gh_world.proofs.Vocabulary.{Mutating, Shape, SoundMutating}
 use Rattle.gh_world.proofs.runner.Runner.opening.Goals as goal
 
 pub returns-clause-sound : goal.returns-clause-sound

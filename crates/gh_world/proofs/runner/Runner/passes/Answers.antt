@@ -1,11 +1,7 @@
 use Rattle.std.proofs.Common.{◌≡◌, ℕ, refl, sym, ap, ◌∙◌, Some, arith, slice_index}
-use Rattle.gh_base.specs.Steps.{changed, target}
-use Rattle.gh_base.specs.declared.cell.Req.{Req}
+use Rattle.gh_world.proofs.Vocabulary.{changed, found_for, goes, Mutating, op_due, progress_after, Req, Runner, target}
 use Rattle.gh_base.specs.declared.operation.Op.TheVariants.{Poll}
-use Rattle.gh_mutator.specs.Mutating.{begins, goes, Mutating}
-use Rattle.gh_world.specs.Turns.{op_due}
-use Rattle.gh_world.specs.World.{found_for, progress_after}
-use Rattle.gh_world.specs.declared.runner.Runner.{Runner}
+use Rattle.gh_mutator.specs.Mutating.{begins}
 use Rattle.gh_world.proofs.AtOnce.{at_once, polls_no_point}
 use Rattle.gh_world.proofs.runner.Runner.passes.Goals as goal
 

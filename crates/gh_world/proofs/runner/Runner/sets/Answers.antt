@@ -1,15 +1,11 @@
 use Rattle.std.proofs.Common.{◌≡◌, Bool, false, sym, ap, subst, ◌∙◌, Some, slice_index}
-use Rattle.gh_base.specs.declared.cell.Req.{Req}
+use Rattle.gh_world.proofs.Vocabulary.{Ask, asks, cell_of, changed, Done, event_at, found_for, goes, InRange, Mutating, now_of, Progress, progress_after, Req, request, Runner, statement_answer}
 use Rattle.gh_base.specs.declared.cell.Ask.TheVariants.{Load}
 use Rattle.gh_base.specs.declared.cell.Cell.TheVariants.{Touch}
-use Rattle.gh_mutator.specs.Mutating.{asks, begins, goes, Mutating}
-use Rattle.gh_base.specs.declared.value.Answer.TheVariants.{Done}
+use Rattle.gh_mutator.specs.Mutating.{begins}
 use Rattle.gh_world.specs.declared.event.Event.TheVariants.{Answered}
-use Rattle.gh_world.specs.declared.runner.Runner.{Runner}
-use Rattle.gh_world.specs.World.{event_at, found_for, now_of}
 use Rattle.gh_world.proofs.AtOnce.{at_once}
 use Rattle.gh_world.proofs.Fitting.{due_sound}
-use Rattle.gh_world.proofs.Vocabulary.{InRange, Progress, progress_after, statement_answer, cell_of, changed, request, Ask}
 use Rattle.gh_world.proofs.runner.Runner.sets.Goals as goal
 
 pub sets-requires-clause-op : goal.sets-requires-clause-op

@@ -1,5 +1,5 @@
 use Rattle.std.proofs.Common.{subst, arith}
-use Rattle.gh_world.specs.World.{State}
+use Rattle.gh_world.proofs.Vocabulary.{State}
 use Rattle.gh_world.proofs.OneStep.{Kept}
 use Rattle.gh_world.proofs.Whole.{whole}
 use Rattle.gh_world.proofs.world.World.done.Goals as goal

@@ -1,5 +1,5 @@
 use Rattle.std.proofs.Common.{◌≡◌, ◌<◌, ◌≤◌, true, ℕ}
-use Rattle.gh_world.specs.World.{is_done}
+use Rattle.gh_world.proofs.Vocabulary.{is_done}
 use Rattle.gh_world.proofs.world.World.done.Given as goal
 
 abbrev pub invariant-loop-actor : goal.invariant-loop-actor

@@ -1,9 +1,6 @@
 use Rattle.std.proofs.Common.{◌≡◌, true, ap, sym, subst, ◌∙◌}
-use Rattle.gh_base.specs.Steps.{request}
+use Rattle.gh_world.proofs.Vocabulary.{gives_nothing, request, SoundCoordinating, SoundOthers, State}
 use Rattle.gh_coord.specs.Listing as coord
-use Rattle.gh_coord.specs.Sound.{SoundCoordinating}
-use Rattle.gh_coord.specs.Stays.{gives_nothing}
-use Rattle.gh_world.specs.World.{SoundOthers, State}
 use Rattle.gh_world.proofs.Fitting.{fits_again, others_led}
 use Rattle.gh_world.proofs.world.World.lead.Goals as goal
 

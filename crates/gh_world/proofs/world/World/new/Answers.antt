@@ -1,13 +1,6 @@
 use Rattle.std.proofs.Common.{◌≡◌, ◌+◌, ◌≤◌, ℕ, length, vec_len, ap, subst, ◌∙◌, arith}
-use Rattle.std.specs.Vec.{vec_capacity}
-use Rattle.gh_base.specs.Cells.{IsLayoutOf, opening_words, ShowsCells}
+use Rattle.gh_world.proofs.Vocabulary.{acks_of, IsLayoutOf, most_cycles, opening_words, setting_of, Settings, ShowsCells, SoundCoordinating, total_of, vec_capacity}
 use Rattle.gh_coord.specs.Listing as coord
-use Rattle.gh_coord.specs.Sound.{SoundCoordinating}
-use Rattle.gh_coord.specs.Stopping.{acks_of}
-use Rattle.gh_script.specs.declared.statement.Settings.{Settings}
-use Rattle.gh_world.specs.Turns.{total_of}
-use Rattle.gh_world.specs.Wishes.{most_cycles}
-use Rattle.gh_world.specs.World.{setting_of}
 use Rattle.gh_world.proofs.Fitting.{others_open, runners_open}
 use Rattle.gh_world.proofs.OtherSteps.{after_opens, all_workers}
 use Rattle.gh_world.proofs.Parts.{of_parts}

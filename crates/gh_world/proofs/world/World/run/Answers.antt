@@ -1,10 +1,6 @@
-use Rattle.std.proofs.Common.{◌≡◌, ◌<◌, ℕ, Bool, true, false, length, refl, sym, subst, ap, ◌∙◌, Option, Some, arith}
-use Rattle.std.specs.Prelude.{IfSome, slice_get}
-use Rattle.std.proofs.Math.ListN.{set}
+use Rattle.std.proofs.Common.{◌≡◌, ◌<◌, ℕ, Bool, true, false, length, refl, sym, subst, ap, ◌∙◌, Option, Some, arith, IfSome, slice_get}
 use Rattle.std.proofs.lemmas.List.{append-nil}
-use Rattle.std.proofs.lemmas.Option.{slice_get_read}
-use Rattle.gh_world.specs.declared.event.Event.TheVariants.{Moved}
-use Rattle.gh_world.specs.World.{IsStepOfProcessor, is_done, now_of, Ran, State}
+use Rattle.gh_world.proofs.Vocabulary.{is_done, IsStepOfProcessor, Moved, now_of, Ran, set, slice_get_read, State}
 use Rattle.gh_world.proofs.OneStep.{few_there, fit_still, fit_there, room_there, run_is, runner_going}
 use Rattle.gh_world.proofs.world.World.run.Goals as goal
 use Rattle.gh_world.proofs.world.World.run.Goals.{After-from-2, After-moves}

@@ -1,12 +1,7 @@
-use Rattle.std.proofs.Common.{◌≡◌, ◌<◌, ℕ, false, true, length, refl, sym, subst, ◌∙◌, Some, arith}
-use Rattle.std.specs.Prelude.{slice_get}
-use Rattle.std.proofs.Math.ListN.{set}
-use Rattle.std.proofs.lemmas.Option.{slice_get_read}
-use Rattle.gh_base.specs.declared.value.Answer.TheVariants.{Done}
+use Rattle.std.proofs.Common.{◌≡◌, ◌<◌, ℕ, false, true, length, refl, sym, subst, ◌∙◌, Some, arith, slice_get}
+use Rattle.gh_world.proofs.Vocabulary.{Done, has_left_at, is_done, IsStepOfProcessor, now_of, Ran, set, slice_get_read, SoundTurns, State}
 use Rattle.gh_world.specs.declared.event.Event.TheVariants.{Answered}
-use Rattle.gh_world.specs.World.{IsStepOfProcessor, is_done, now_of, Ran, SoundTurns, State}
 use Rattle.gh_world.proofs.OneStep.{few_there, fit_there, room_there, run_is, runner_going}
-use Rattle.gh_world.proofs.Vocabulary.{has_left_at}
 use Rattle.gh_world.proofs.world.World.run_on.Goals as goal
 use Rattle.gh_world.proofs.world.World.run_on.Goals.{After-from-seat, After-now, After-run-event, After-sets, in-Some+else-sets+in-GetGlobal+in_default-directs, in-Some+else-sets+in_default-op, in_default}
 

@@ -1,6 +1,5 @@
 use Rattle.std.proofs.Common.{◌≡◌, ◌%◌, ◌^◌, ℕ, length, sym, ap, ◌∙◌, arith}
-use Rattle.gh_law.specs.Credit.{spent_among}
-use Rattle.gh_world.specs.World.{actor_of, State}
+use Rattle.gh_world.proofs.Vocabulary.{actor_of, spent_among, State}
 use Rattle.gh_world.proofs.Drawing.{drawn_all}
 use Rattle.gh_world.proofs.world.World.spent.Goals as goal
 

@@ -1,6 +1,5 @@
 use Rattle.std.proofs.Common.{◌≡◌, ◌%◌, ◌^◌}
-use Rattle.gh_law.specs.Credit.{spent_among}
-use Rattle.gh_world.specs.World.{actor_of}
+use Rattle.gh_world.proofs.Vocabulary.{actor_of, spent_among}
 use Rattle.gh_world.proofs.world.World.spent.Given as goal
 
 abbrev pub invariant-loop-runner : goal.invariant-loop-runner

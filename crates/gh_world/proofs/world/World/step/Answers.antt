@@ -1,8 +1,5 @@
 use Rattle.std.proofs.Common.{◌≡◌, ◌+◌, ◌-◌, ◌≤◌, ap, subst, length, arith}
-use Rattle.gh_base.specs.declared.layout.Layout.{Layout}
-use Rattle.gh_base.specs.Steps.{StepsAreShown}
-use Rattle.gh_mutator.specs.Deeds.{processor_kind}
-use Rattle.gh_world.specs.World.{State}
+use Rattle.gh_world.proofs.Vocabulary.{Layout, processor_kind, State, StepsAreShown}
 use Rattle.gh_world.proofs.OneStep.{appends, appends_lead, appends_work, busy_lead, busy_worker, few_lead, few_work, Kept}
 use Rattle.gh_world.proofs.world.World.step.Goals as goal
 

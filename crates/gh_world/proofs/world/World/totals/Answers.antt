@@ -1,6 +1,6 @@
 use Rattle.std.proofs.Common.{ap, ◌∙◌, arith}
+use Rattle.gh_world.proofs.Vocabulary.{State}
 use Rattle.gh_coord.specs.Listing.{lapsed_at}
-use Rattle.gh_world.specs.World.{State}
 use Rattle.gh_world.proofs.OneStep.{lapsed_last}
 use Rattle.gh_world.proofs.world.World.totals.Goals as goal
 

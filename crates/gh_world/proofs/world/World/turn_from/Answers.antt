@@ -1,8 +1,5 @@
 use Rattle.std.proofs.Common.{◌≡◌, ◌<◌, ℕ, ◌-◌, true, false, sym, ap, subst, ◌∙◌, arith, inl, inr}
-use Rattle.std.specs.List.{range_with_len}
-use Rattle.std.proofs.lemmas.Bool.{cases_lt}
-use Rattle.gh_world.specs.Schedule.{first_going}
-use Rattle.gh_world.specs.World.{actors_of, is_done, State}
+use Rattle.gh_world.proofs.Vocabulary.{actors_of, cases_lt, first_going, is_done, range_with_len, State}
 use Rattle.gh_world.proofs.OneStep.{Kept}
 use Rattle.gh_world.proofs.Whole.{same_turn, turn_low, turn_on, whole}
 use Rattle.gh_world.proofs.world.World.turn_from.Goals as goal

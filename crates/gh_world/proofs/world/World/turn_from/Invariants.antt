@@ -1,7 +1,5 @@
 use Rattle.std.proofs.Common.{◌≡◌, ◌<◌, ◌≤◌, ℕ, ◌-◌, ◌++◌, true}
-use Rattle.std.specs.List.{range_with_len}
-use Rattle.gh_world.specs.Schedule.{first_going, turn_from}
-use Rattle.gh_world.specs.World.{actors_of, is_done}
+use Rattle.gh_world.proofs.Vocabulary.{actors_of, first_going, is_done, range_with_len, turn_from}
 use Rattle.gh_world.proofs.world.World.turn_from.Given as goal
 
 abbrev pub invariant-loop-a : goal.invariant-loop-a

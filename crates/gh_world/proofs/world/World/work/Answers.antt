@@ -1,10 +1,6 @@
-use Rattle.std.proofs.Common.{◌≡◌, ◌<◌, length, refl, ap, sym, subst, ◌∙◌, Some}
-use Rattle.std.specs.Prelude.{slice_get}
-use Rattle.std.proofs.Math.ListN.{set}
-use Rattle.std.proofs.lemmas.Option.{slice_get_read}
-use Rattle.gh_base.specs.Steps.{request}
+use Rattle.std.proofs.Common.{◌≡◌, ◌<◌, length, refl, ap, sym, subst, ◌∙◌, Some, slice_get}
+use Rattle.gh_world.proofs.Vocabulary.{IsStepOfWorker, request, set, slice_get_read, State}
 use Rattle.gh_worker.specs.Listing.{asks}
-use Rattle.gh_world.specs.World.{IsStepOfWorker, State}
 use Rattle.gh_world.proofs.Fitting.{fits_again, others_worked, work_is}
 use Rattle.gh_world.proofs.world.World.work.Goals as goal
 use Rattle.gh_world.proofs.world.World.work.Goals.{After-index_mut-worker}
