@@ -1,6 +1,6 @@
 -- A processor runs the sweeps of its search for a slot, and no others.
 use Rattle.std.proofs.Common.{◌≡◌, ℕ, Bool, true, false, cond, List, Option, Some, None, refl, ap, ◌∙◌, arith}
-use Rattle.gh_mutator.proofs.Vocabulary.{after_gc, after_leave, after_poll, after_search, asks_at, Assist, begins, cache_span, follows, Found, has_left_at, Layout, Leaving, NewStage, Op, Place, Polling, Processor, processor_kind, register_of, Search, searches, Seeking, seeking, Shape, takes_at, Task, Then, Wait, Waiting, Want, Wanted, wanted_of}
+use Rattle.gh_mutator.proofs.Vocabulary.{after_gc, after_leave, after_poll, after_search, asks_at, Assist, begins, cache_span, follows, Found, has_left_at, Layout, Leaving, NewStage, Op, Place, Polling, Processor, processor_kind, register_of, Search, Seeking, seeking, Shape, takes_at, Task, Then, Wait, Waiting, Want, Wanted, wanted_of}
 use Rattle.gh_alloc.specs.Search as search
 use Rattle.gh_sweep.specs.Listing.{is_busy, Sweeping}
 use Rattle.gh_sweep.specs.Listing as sweep

@@ -1,6 +1,6 @@
 -- An operation is answered exactly where no further step is asked for. And what single steps come to, for the crates above that cite it.
 use Rattle.std.proofs.Common.{ap, arith, ◌≡◌, ℕ, Bool, true, false, ◌↔◌, List, Option, Some, None, is_none, IsNone, refl}
-use Rattle.gh_mutator.specs.Vocabulary.{Answer, Assisting, Found, Layout, marking_at, Name, NewStage, Placing, Polling, Seeking, Shape, Store, Task, Then, Wanted}
+use Rattle.gh_mutator.specs.Vocabulary.{Answer, Assisting, Found, Layout, marking_at, Name, NewStage, Placing, Polling, Seeking, Shape, Task, Then, Wanted}
 use Rattle.gh_alloc.specs.Search as search
 use Rattle.gh_alloc.specs.Stays.{Base, search_base}
 use Rattle.gh_poll.specs.Leave as leave

@@ -6,7 +6,7 @@ ghost use Rattle.gh_base.specs.declared.cell.Cell.TheVariants as cell;
 ghost use Rattle.gh_base.specs.declared.operation.Op.TheVariants as ops;
 ghost use Rattle.gh_base.specs.declared.value.Answer.{Answer};
 ghost use Rattle.gh_base.specs.declared.value.Answer.TheVariants as answers;
-ghost use Rattle.gh_mutator.specs.AtOnce.{object_in};
+ghost use Rattle.gh_mutator.specs.AtOnce.{MadeAtOnce, object_in};
 ghost use Rattle.gh_mutator.specs.Faults.{rested};
 ghost use Rattle.gh_mutator.specs.Listing.{is_at_field, is_made_further, is_searching, is_waiting, search_goes_on};
 ghost use Rattle.gh_base.specs.declared.layout.Layout.{Layout};
@@ -16,7 +16,7 @@ ghost use Rattle.gh_mutator.specs.Mutating.{acts, asks, begins, gives, goes, is_
 ghost use Rattle.gh_poll.specs.Barrier.{has_entries};
 ghost use Rattle.gh_mutator.specs.Processor.{register_of, set_register};
 ghost use Rattle.gh_poll.specs.Room.{room_in};
-ghost use Rattle.gh_mutator.specs.Serving.{has_left_at, is_last, is_point, is_serving, statement_answer};
+ghost use Rattle.gh_mutator.specs.Serving.{has_left_at, is_last, is_point, is_serving};
 ghost use Rattle.gh_base.specs.Shapes.{ShapesFit};
 ghost use Rattle.gh_poll.specs.Registers.{IsNear, IsRegister};
 ghost use Rattle.gh_mutator.specs.Sound.{has_names, has_room, SoundMutating, SoundOp};
@@ -133,11 +133,8 @@ impl<'s> Mutator<'s> {
         requires idle { is_busy self.old ≡ false }
         requires op { SoundOp self.old.shapes layout.now op }
         ensures exactly { result ≡ sets self.old op }
-        ensures set { IsTrue result → (found : ℕ) → self.new ≡ goes layout.now (begins self.old op) found }
         ensures asks { IsTrue result → asks layout.now (begins self.old op) ≡ ask.Load cell.Touch }
-        ensures answer { IsTrue result → (found : ℕ) → statement_answer layout.now (begins self.old op).processor found ≡ Some answers.Done }
-        ensures goes_on { IsTrue result → is_last (begins self.old op).processor.task ≡ false }
-        ensures acts { IsTrue result → (found : ℕ) → is_point (acts layout.now (begins self.old op) found) ≡ true }
+        ensures made { IsTrue result → (found : ℕ) → MadeAtOnce layout.now (begins self.old op) found self.new true (Some answers.Done) }
         ensures sound { SoundMutating layout.now self.new.shapes self.new.processor }
         ensures stays { result ≡ false → self.new ≡ self.old }
     {
@@ -181,10 +178,7 @@ impl<'s> Mutator<'s> {
         requires op { SoundOp self.old.shapes layout.now op }
         requires idle { is_busy self.old ≡ false }
         requires direct { is_direct self.old op ≡ true }
-        ensures goes { self.new ≡ goes layout.now (begins self.old op) found }
-        ensures answer { result ≡ statement_answer layout.now (begins self.old op).processor found }
-        ensures goes_on { is_last (begins self.old op).processor.task ≡ false }
-        ensures acts { is_point (acts layout.now (begins self.old op) found) ≡ true }
+        ensures made { MadeAtOnce layout.now (begins self.old op) found self.new true result }
         ensures sound { SoundMutating layout.now self.new.shapes self.new.processor }
     {
         let answer = self.processor.directly(layout, self.shapes, op, found);
@@ -321,10 +315,7 @@ impl<'s> Mutator<'s> {
     pub fn goes_on(&mut self, layout: &Layout, found: u64) -> bool
         requires sound { SoundMutating layout.now self.old.shapes self.old.processor }
         ensures exactly { result ≡ search_goes_on layout.now self.old.processor.task found }
-        ensures goes { IsTrue result → self.new ≡ goes layout.now self.old found }
-        ensures last { IsTrue result → is_last self.old.processor.task ≡ false }
-        ensures point { IsTrue result → is_point (acts layout.now self.old found) ≡ false }
-        ensures answer { IsTrue result → statement_answer layout.now self.old.processor found ≡ None }
+        ensures made { IsTrue result → MadeAtOnce layout.now self.old found self.new false None }
         ensures sound { SoundMutating layout.now self.new.shapes self.new.processor }
         ensures stays { result ≡ false → self.new ≡ self.old }
     {
@@ -337,10 +328,7 @@ impl<'s> Mutator<'s> {
     #[inline(always)]
     pub fn finds(&mut self, layout: &Layout, found: u64) -> bool
         requires sound { SoundMutating layout.now self.old.shapes self.old.processor }
-        ensures goes { IsTrue result → self.new ≡ goes layout.now self.old found }
-        ensures last { IsTrue result → is_last self.old.processor.task ≡ false }
-        ensures point { IsTrue result → is_point (acts layout.now self.old found) ≡ false }
-        ensures answer { IsTrue result → statement_answer layout.now self.old.processor found ≡ None }
+        ensures made { IsTrue result → MadeAtOnce layout.now self.old found self.new false None }
         ensures sound { SoundMutating layout.now self.new.shapes self.new.processor }
         ensures stays { result ≡ false → self.new ≡ self.old }
     {
@@ -373,10 +361,7 @@ impl<'s> Mutator<'s> {
     #[inline(always)]
     pub fn waits(&mut self, layout: &Layout, found: u64) -> bool
         requires sound { SoundMutating layout.now self.old.shapes self.old.processor }
-        ensures goes { IsTrue result → self.new ≡ goes layout.now self.old found }
-        ensures last { IsTrue result → is_last self.old.processor.task ≡ false }
-        ensures point { IsTrue result → is_point (acts layout.now self.old found) ≡ false }
-        ensures answer { IsTrue result → statement_answer layout.now self.old.processor found ≡ None }
+        ensures made { IsTrue result → MadeAtOnce layout.now self.old found self.new false None }
         ensures sound { SoundMutating layout.now self.new.shapes self.new.processor }
         ensures stays { result ≡ false → self.new ≡ self.old }
     {
@@ -403,14 +388,9 @@ impl<'s> Mutator<'s> {
         requires long { length (W.list words.old) ≡ length_of layout.now }
         ensures words { W.list words.new ≡ changed (request layout.now (asks layout.now self.old)) (W.list words.old) }
         ensures within { InRange layout.now (cell_of (asks layout.now self.old)) }
-        ensures goes { let found = slice_index (W.list words.old) (target (request layout.now (asks layout.now self.old))) in
-            self.new ≡ goes layout.now self.old found }
+        ensures made { let found = slice_index (W.list words.old) (target (request layout.now (asks layout.now self.old))) in
+            MadeAtOnce layout.now self.old found self.new result None }
         ensures busy { is_busy self.old ≡ true }
-        ensures last { is_last self.old.processor.task ≡ false }
-        ensures point { let found = slice_index (W.list words.old) (target (request layout.now (asks layout.now self.old))) in
-            is_point (acts layout.now self.old found) ≡ result }
-        ensures answer { let found = slice_index (W.list words.old) (target (request layout.now (asks layout.now self.old))) in
-            statement_answer layout.now self.old.processor found ≡ None }
         ensures sound { SoundMutating layout.now self.new.shapes self.new.processor }
     {
         self.processor.make_on(layout, self.shapes, words)
@@ -431,10 +411,7 @@ impl<'s> Mutator<'s> {
     #[inline(always)]
     pub fn ends_by(&mut self, layout: &Layout, found: u64) -> Option<Name>
         requires sound { SoundMutating layout.now self.old.shapes self.old.processor }
-        ensures goes { IfSome result (λ name. self.new ≡ goes layout.now self.old found) }
-        ensures last { IfSome result (λ name. is_last self.old.processor.task ≡ false) }
-        ensures point { IfSome result (λ name. is_point (acts layout.now self.old found) ≡ false) }
-        ensures answer { IfSome result (λ name. statement_answer layout.now self.old.processor found ≡ Some (answers.Ref name)) }
+        ensures made { IfSome result (λ name. MadeAtOnce layout.now self.old found self.new false (Some (answers.Ref name))) }
         ensures sound { SoundMutating layout.now self.new.shapes self.new.processor }
         ensures stays { result ≡ None → self.new ≡ self.old }
     {
@@ -461,10 +438,7 @@ impl<'s> Mutator<'s> {
     #[inline(always)]
     pub fn names(&mut self, layout: &Layout, found: u64) -> Option<Answer>
         requires sound { SoundMutating layout.now self.old.shapes self.old.processor }
-        ensures goes { IfSome result (λ a. self.new ≡ goes layout.now self.old found) }
-        ensures last { IfSome result (λ a. is_last self.old.processor.task ≡ false) }
-        ensures point { IfSome result (λ a. is_point (acts layout.now self.old found) ≡ false) }
-        ensures answer { IfSome result (λ a. statement_answer layout.now self.old.processor found ≡ Some a) }
+        ensures made { IfSome result (λ a. MadeAtOnce layout.now self.old found self.new false (Some a)) }
         ensures sound { SoundMutating layout.now self.new.shapes self.new.processor }
         ensures stays { result ≡ None → self.new ≡ self.old }
     {
@@ -501,10 +475,7 @@ impl<'s> Mutator<'s> {
     #[inline(always)]
     pub fn reads(&mut self, layout: &Layout, found: u64) -> bool
         requires sound { SoundMutating layout.now self.old.shapes self.old.processor }
-        ensures goes { IsTrue result → self.new ≡ goes layout.now self.old found }
-        ensures last { IsTrue result → is_last self.old.processor.task ≡ false }
-        ensures point { IsTrue result → is_point (acts layout.now self.old found) ≡ false }
-        ensures answer { IsTrue result → statement_answer layout.now self.old.processor found ≡ None }
+        ensures made { IsTrue result → MadeAtOnce layout.now self.old found self.new false None }
         ensures sound { SoundMutating layout.now self.new.shapes self.new.processor }
         ensures stays { result ≡ false → self.new ≡ self.old }
     {

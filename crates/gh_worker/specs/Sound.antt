@@ -42,7 +42,7 @@ SoundStage l (Shading sh) = Runs (shade.listing l) sh
 SoundStage l (FindRoom sh r) = ShadingWaits l sh r
 SoundStage l p = NumberFits l p
 
--- what is kept of it whatever is found, be it no word of 64 bits: where its next step is
+-- what is kept of a stage whatever is found, be it no word of 64 bits: enough for its next step to be on a word that there is
 abbrev pub StageWithin : Layout → WorkerStage → Type 0
 StageWithin l (Sweeping sw) = sw.page < l.pages
 StageWithin l (GiveBack g stops) = SoundGiveStage l g.stage
@@ -78,6 +78,7 @@ pub record SoundWorking (l : Layout) (w : Working) : Type 0 where
   pub page : w.page < l.pages
   pub stage : SoundStage l w.stage
 
+-- and of the worker
 pub record StandsWithin (l : Layout) (w : Working) : Type 0 where
   pub pages : 1 ≤ l.pages
   pub seat : IsWorkersSeat l w.seat

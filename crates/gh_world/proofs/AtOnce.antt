@@ -4,6 +4,7 @@ use Rattle.std.proofs.lemmas.Grind.{common_steps}
 use Rattle.gh_world.proofs.Vocabulary.{acting, acts, Ask, asks, cell_of, changed, Event, event_at, Follows, found_for, goes, has_left_at, InRange, is_busy_at, is_last, is_point, is_poll_due, is_run_due, Layout, LaysOut, Mutating, Next, now_of, Op, op_at_turn, op_due, PollsMakeRoom, Program, progress_after, Ran, request, Runner, SoundTurns, statement_answer, target, WellFormed}
 use Rattle.gh_base.specs.declared.cell.Ask.TheVariants.{Load}
 use Rattle.gh_base.specs.declared.cell.Cell.{Cell}
+use Rattle.gh_mutator.specs.AtOnce.{MadeAtOnce}
 use Rattle.gh_mutator.specs.Mutating.{begins}
 use Rattle.gh_world.specs.World.{found_by_step, MakesAtOnce}
 use Rattle.gh_world.proofs.Fitting.{busy_begun, fit_begun}
@@ -40,17 +41,13 @@ module _ (p : Program) (l : Layout) (script : WellFormed p) (layout : LaysOut p 
 loads_words : (l : Layout) (words : List ℕ) (c : Cell) → words ≡ changed (request l (Load c)) words
 loads_words l words c = grind (arith, common_steps)
 
-pub loads_only : (l : Layout) (words : List ℕ) (old new : Mutating) (c : Cell) (found : ℕ) → asks l old ≡ Load c → InRange l c → found ≡ slice_index words (target (request l (Load c))) → new ≡ goes l old found →
-    is_last old.processor.task ≡ false → is_point (acts l old.processor found) ≡ false → statement_answer l old.processor found ≡ None → MakesAtOnce l words words old new false None
-loads_only l words old new c found asked within is after last point answers =
+pub loads_only : (l : Layout) (words : List ℕ) (old new : Mutating) (c : Cell) (found : ℕ) → asks l old ≡ Load c → InRange l c → found ≡ slice_index words (target (request l (Load c))) → MadeAtOnce l old found new false None → MakesAtOnce l words words old new false None
+loads_only l words old new c found asked within is made =
     let told : found ≡ found_by_step l words old = is ∙ ap (λ (a : Ask). slice_index words (target (request l a))) (sym asked) in
     record {
       within = subst (λ (a : Ask). InRange l (cell_of a)) (sym asked) within;
       words = subst (λ (a : Ask). words ≡ changed (request l a) words) (sym asked) (loads_words l words c);
-      goes = after ∙ ap (goes l old) told;
-      last = last;
-      point = subst (λ (n : ℕ). is_point (acts l old.processor n) ≡ false) told point;
-      answers = subst (λ (n : ℕ). statement_answer l old.processor n ≡ None) told answers;
+      made = subst (λ (n : ℕ). MadeAtOnce l old n new false None) told made;
     }
 
 -- ---- a step of what is begun

@@ -5,6 +5,7 @@ use Rattle.gh_world.specs.Vocabulary.{Actor, acts, Answer, arena_of, Ask, before
 use Rattle.gh_mutator.specs.declared.new.NewStage.TheVariants.{Assist, Place, Want}
 use Rattle.gh_base.specs.Steps.{cell_of, changed, request, target}
 use Rattle.gh_mutator.specs.declared.new.NewStage.{NewStage}
+use Rattle.gh_mutator.specs.AtOnce.{MadeAtOnce}
 use Rattle.gh_mutator.specs.New.{is_made}
 use Rattle.gh_mutator.specs.Mutating.{Mutating, goes, asks, begins, opening}
 use Rattle.gh_coord.specs.Listing as coord
@@ -344,14 +345,11 @@ pub record Begins (p : Program) (a : ℕ) (old new : Runner) : Type 0 where
 abbrev pub found_by_step : Layout → List ℕ → Mutating → ℕ
 found_by_step l words m = slice_index words (target (request l (asks l m)))
 
--- A step of a processor that is made in its place: it is on a word that there is, and is not its last. What it writes, where it leads, whether it is the point of the statement, and what that is answered by it.
+-- the processor's next step is made at once, over these words
 pub record MakesAtOnce (l : Layout) (before behind : List ℕ) (old new : Mutating) (pointed : Bool) (answer : Option Answer) : Type 0 where
   pub within : InRange l (cell_of (asks l old))
   pub words : behind ≡ changed (request l (asks l old)) before
-  pub goes : new ≡ goes l old (found_by_step l before old)
-  pub last : is_last old.processor.task ≡ false
-  pub point : is_point (acts l old.processor (found_by_step l before old)) ≡ pointed
-  pub answers : statement_answer l old.processor (found_by_step l before old) ≡ answer
+  pub made : MadeAtOnce l old (found_by_step l before old) new pointed answer
 
 -- and what that of a runner finds
 abbrev pub found_for : Layout → List ℕ → Runner → ℕ

@@ -24,8 +24,9 @@ returns-clause-ran c =
     let told : c.step-found.result ≡ found = c.step-found.ensures.found ∙ ap (λ (r : Req). slice_index c.args.words.now (target r)) requested in
     let now = now_of begun.progress in
     let answer = statement_answer l b.processor found in
-    let event = ap (λ (x : Bool). event_at now x answer) c.directly-answer.ensures.goes_on in
+    let made = c.directly-answer.ensures.made in
+    let event = ap (λ (x : Bool). event_at now x answer) made.last in
     at_once _ _ c.is_well_formed.ensures c.requires.layout _ c.args.self.now c.requires.fits c.polls_make_room.ensures c.args.op c.advance.new.self.next _ _ _ _ _ c.requires.idle c.requires.going c.requires.due c.advance.ensures.polled c.advance.ensures.follows within words
-    (ap {B = Runner} (λ (m : Mutating). record { mutator = m; progress = c.advance.new.self }) (c.directly-answer.ensures.goes ∙ ap (goes l b) told) ∙ ap {B = Runner} (λ (n : Progress). record { mutator = goes l b found; progress = n }) c.advance.ensures.counted)
-    (c.event_at.ensures ∙ ap (λ (x : Option Answer). event_at c.now-g.result false x) (c.directly-answer.ensures.answer ∙ ap (statement_answer l b.processor) told) ∙ ap (λ (n : ℕ × ℕ). event_at n false answer) (c.now-g.ensures ∙ ap now_of c.advance.ensures.counted) ∙ sym event)
-    (sym (ap (λ (n : ℕ). is_point (acts l b.processor n)) (sym told) ∙ c.directly-answer.ensures.acts))
+    (ap {B = Runner} (λ (m : Mutating). record { mutator = m; progress = c.advance.new.self }) (made.goes_so ∙ ap (goes l b) told) ∙ ap {B = Runner} (λ (n : Progress). record { mutator = goes l b found; progress = n }) c.advance.ensures.counted)
+    (c.event_at.ensures ∙ ap (λ (x : Option Answer). event_at c.now-g.result false x) (sym made.answers ∙ ap (statement_answer l b.processor) told) ∙ ap (λ (n : ℕ × ℕ). event_at n false answer) (c.now-g.ensures ∙ ap now_of c.advance.ensures.counted) ∙ sym event)
+    (sym (ap (λ (n : ℕ). is_point (acts l b.processor n)) (sym told) ∙ made.point))

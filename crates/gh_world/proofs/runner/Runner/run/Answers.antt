@@ -34,7 +34,7 @@ returns-then-reads-clause-ran c =
       busy = c.begin_next.ensures.busy c.requires.going;
       within = made.within;
       words = made.words;
-      goes = rw made.goes refl;
-      says = rw (made.last, made.answers) refl;
-      point = sym made.point;
+      goes = rw made.made.goes_so refl;
+      says = rw (made.made.last, made.made.answers) refl;
+      point = sym made.made.point;
     }

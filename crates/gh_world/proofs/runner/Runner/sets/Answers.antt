@@ -21,7 +21,8 @@ returns-clause-ran c t =
     let found = found_for c.args.layout.now c.args.words.now begun in
     let now = now_of begun.progress in
     let answer = statement_answer c.args.layout.now b.processor found in
-    let event = ap (λ (x : Bool). event_at now x answer) (c.if-not-sets.ensures.goes_on t) ∙ ap (event_at now false) (c.if-not-sets.ensures.answer t found) in
+    let made = c.if-not-sets.ensures.made t found in
+    let event = ap (λ (x : Bool). event_at now x answer) made.last ∙ ap (event_at now false) made.answers in
     at_once _ _ c.is_well_formed.ensures c.requires.layout _ c.args.self.now c.requires.fits c.polls_make_room.ensures c.args.op c.advance.new.self.next _ _ _ _ _ c.requires.idle c.requires.going c.requires.due c.advance.ensures.polled c.advance.ensures.follows within words
-    (ap {B = Runner} (λ (m : Mutating). record { mutator = m; progress = c.advance.new.self }) (c.if-not-sets.ensures.set t found) ∙ ap {B = Runner} (λ (n : Progress). record { mutator = goes c.args.layout.now b found; progress = n }) c.advance.ensures.counted)
-    (ap (λ (n : Progress). Answered n.last (slice_index n.begun n.last) Done) c.advance.ensures.counted ∙ sym event) (sym (c.if-not-sets.ensures.acts t found))
+    (ap {B = Runner} (λ (m : Mutating). record { mutator = m; progress = c.advance.new.self }) made.goes_so ∙ ap {B = Runner} (λ (n : Progress). record { mutator = goes c.args.layout.now b found; progress = n }) c.advance.ensures.counted)
+    (ap (λ (n : Progress). Answered n.last (slice_index n.begun n.last) Done) c.advance.ensures.counted ∙ sym event) (sym made.point)
