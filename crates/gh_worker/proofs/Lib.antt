@@ -1,7 +1,5 @@
 pub mod Vocabulary
 pub mod Counting
-pub mod Earning
-pub mod Globals
 pub mod MarkShades
 pub mod MarkSteps
 pub mod Phases
@@ -10,4 +8,3 @@ pub mod Shaking
 pub mod Sound
 pub mod Sweeping
 pub mod Within
-pub mod Writing
