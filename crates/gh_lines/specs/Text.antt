@@ -1,6 +1,6 @@
 -- The bytes of the output: each line ends with LF, its words are parted by one space, and its numbers are in decimal digits.
 use Rattle.std.specs.Prelude.{ℕ, ◌+◌, ◌<◌, ◌==◌, ⊤, Bool, true, false, if◌then◌else◌, List, [], ◌∷◌, ◌++◌, length, map, codes, decimal}
-use Rattle.std.specs.List.{concat, flat_map, range_with_len}
+use Rattle.std.specs.List.{flat_map, range_with_len}
 use Rattle.gh_base.specs.declared.value.Answer.{Answer}
 use Rattle.gh_base.specs.declared.value.Answer.TheVariants.{Done, Nil, Int, Ref, Swept, Full, Fault}
 use Rattle.gh_base.specs.declared.value.Fault as faults

@@ -1,6 +1,6 @@
 -- The stores of a processor are blind: whatever word one overwrites, the processor goes over to the same, and the operation is answered the same.
 use Rattle.std.proofs.Common.{ap, arith, ◌≡◌, ℕ, true, List, Option}
-use Rattle.gh_mutator_writes.specs.Vocabulary.{after_assist, after_place, after_search, after_wait, answer_assist, answer_made, answer_search, asks_at, gives, gives_at, GlobalStage, goes, Layout, LeaveStage, marking_at, marks_after, Mutating, NewStage, Polling, PollStage, Processor, Shape, StoreStage, takes_at, Task, WaitStage}
+use Rattle.gh_mutator_writes.specs.Vocabulary.{asks_at, gives, gives_at, GlobalStage, goes, Layout, LeaveStage, marking_at, marks_after, Mutating, NewStage, Polling, PollStage, Processor, Shape, StoreStage, takes_at, Task, WaitStage}
 use Rattle.gh_base.specs.Blind.{is_store, StoresAreBlind}
 use Rattle.gh_base.specs.declared.held.Held.{Held}
 use Rattle.gh_poll.specs.declared.poll.Local.{Local}

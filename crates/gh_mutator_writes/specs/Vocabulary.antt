@@ -4,7 +4,7 @@ pub use Rattle.gh_base.specs.declared.cell.Cell.{Cell}
 pub use Rattle.gh_mutator.specs.Listing.{asks, asks_at, gives_at, is_busy_at, takes, takes_at}
 pub use Rattle.gh_mutator.specs.MarkVocabulary.{effect, processor_kind}
 pub use Rattle.gh_mutator.specs.Mutating.{begins, gives, goes, listing, marks_after, Mutating}
-pub use Rattle.gh_mutator.specs.New.{after_assist, after_place, after_search, after_wait, answer_assist, answer_made, answer_search, wanted_of}
+pub use Rattle.gh_mutator.specs.New.{after_assist, after_place, after_search, after_wait, answer_search, wanted_of}
 pub use Rattle.gh_mutator.specs.Processing.{Processor}
 pub use Rattle.gh_mutator.specs.Processor.{at_poll, opening_processor}
 pub use Rattle.gh_mutator.specs.Running.{IsAssisting, IsSound}

@@ -1,7 +1,7 @@
 -- A cycle opens and ends; and what is told once all is swept.
 use Rattle.std.proofs.Common.{◌≡◌, ℕ, zero, suc, ◌+◌, ◌-◌, ◌/◌, ◌%◌, true, refl, sym, ap, subst, ◌∙◌, arith, inl, inr, Option, None}
 use Rattle.std.proofs.lemmas.Bool.{eq-eqb}
-use Rattle.gh_state.proofs.Vocabulary.{AllIsTold, Arena, AreSwept, bit_at, bit_at-zero, Body, By, Cell, cycle_ended, CycleEnd, CyclesEnd, CyclesOpen, Done, Due, end_of, EndsWell, eqb_tells, Far, Free, generation_of, Good, HasEnded, Head, HeapsOpen, InSpan, IsOver, left_uncut, mark_words, marks_at, Name, nothing_due, opening, opening_end, opening_words, Opens, owed, owner_in, page_of, PageWord, Reach, row_bit, RowsAreWritten, SaysFar, seats_of, seen_by_sweep, Shared, SpanHead, TheSweepIsTold, Told, Words}
+use Rattle.gh_state.proofs.Vocabulary.{AllIsTold, Arena, AreSwept, bit_at, bit_at-zero, Body, Cell, cycle_ended, CycleEnd, CyclesEnd, CyclesOpen, Done, Due, end_of, EndsWell, eqb_tells, Far, Free, generation_of, Good, HasEnded, Head, HeapsOpen, InSpan, IsOver, left_uncut, mark_words, Name, nothing_due, opening, opening_end, opening_words, Opens, owed, owner_in, page_of, PageWord, Reach, row_bit, RowsAreWritten, SaysFar, seats_of, seen_by_sweep, Shared, SpanHead, TheSweepIsTold, Told, Words}
 use Rattle.gh_heap.specs.Rights as rights
 use Rattle.gh_sweep.specs.Bits.{sum_below}
 use Rattle.gh_sweep.specs.Shared as spans

@@ -1,7 +1,7 @@
 -- Each move keeps what holds at every moment.
 use Rattle.std.proofs.Common.{◌≡◌, ◌≢◌, ℕ, ◌+◌, ◌*◌, ◌/◌, ◌%◌, ◌<◌, Bool, true, false, refl, sym, ap, subst, ◌∙◌, arith, inl, inr, Option, None}
 use Rattle.std.proofs.lemmas.Bool.{le-ltb}
-use Rattle.gh_state.proofs.Vocabulary.{Arena, Ask, bit_at, By, Cell, Count, Deed, Done, EachMoveKeeps, eqb_tells, generation_of, Good, Head, in_sweep, IsKept, IsOfSweep, IsSpan, Layout, marks_at, May, MaySweep, moved, Name, page_of, Reach, ReachedAreMarked, SaysFar, seats_of, seen_by_sweep, Shared, SpanHead, Sweep, Told, update}
+use Rattle.gh_state.proofs.Vocabulary.{Arena, Ask, bit_at, By, Cell, Count, Deed, EachMoveKeeps, eqb_tells, generation_of, Good, Head, in_sweep, IsKept, IsOfSweep, IsSpan, Layout, marks_at, May, MaySweep, moved, Name, page_of, Reach, ReachedAreMarked, SaysFar, seats_of, seen_by_sweep, Shared, SpanHead, Sweep, Told, update}
 use Rattle.gh_heap.specs.Moves as heap
 use Rattle.gh_heap.specs.Rights as rights
 use Rattle.gh_sweep.specs.Listing.{bit_words}

@@ -1,5 +1,5 @@
 -- What holds of each handle that a heap opens with, and of each actor that was run.
-use Rattle.std.proofs.Common.{◌≡◌, ◌∙◌, ℕ, List, [], ◌∷◌, All, length, get_or, subst}
+use Rattle.std.proofs.Common.{◌≡◌, ◌∙◌, List, [], ◌∷◌, All, subst}
 use Rattle.goheap_example.proofs.Vocabulary.{All-cons, All-head, All-nil, All-tail, AreOf, IsActorOf, IsHandleOf}
 use Rattle.gh_gate.specs.Jobs.{AllHaveRun}
 use Rattle.gh_shared.specs.declared.heap.Heap.{Heap}

@@ -1,6 +1,6 @@
 -- The step of a worker: where it runs a sweep the step is the sweep's; else it runs none behind it, or has begun one, whatever the coordinator's stage.
 use Rattle.std.proofs.Common.{◌≡◌, ℕ, true, sym, ap, subst, ◌∙◌, List, ◌∷◌, Option, Some, None, arith}
-use Rattle.gh_marked.proofs.Vocabulary.{Actor, actors, actors_after, Arena, arena, Ask, BeginsSweep, Cell, cell_of, effect, Entry, HasState, is_busy, IsAtWork, IsAwake, IsInSweep, IsSeated, Legal, ListsKnown, Load, Op, Party, seated, SeatSweepsNothing, Setup, started, State, StateGood, sweep_of, Sweeping, SweepsOn, those, Words, words, worker_started, works}
+use Rattle.gh_marked.proofs.Vocabulary.{Actor, actors, actors_after, Arena, arena, Ask, BeginsSweep, Cell, cell_of, effect, Entry, HasState, IsAtWork, IsAwake, IsInSweep, IsSeated, Legal, ListsKnown, Load, Op, Party, seated, SeatSweepsNothing, Setup, started, State, StateGood, sweep_of, Sweeping, SweepsOn, those, Words, words, worker_started, works}
 use Rattle.gh_sweep.specs.Listing as sweep
 use Rattle.gh_worker.specs.Listing as worker
 use Rattle.gh_lists.specs.Handshake.{asks}

@@ -1,4 +1,4 @@
-use Rattle.std.proofs.Common.{ℕ, false, sym, ◌∙◌, arith}
+use Rattle.std.proofs.Common.{false, sym, ◌∙◌, arith}
 use Rattle.gh_replay.proofs.Vocabulary.{is_done}
 use Rattle.gh_replay.proofs.Kept.{goes_on_to}
 use Rattle.gh_replay.proofs.place.all_go_on.Goals as goal

@@ -1,4 +1,4 @@
-use Rattle.std.proofs.Common.{[], ◌∷◌, refl}
+use Rattle.std.proofs.Common.{refl}
 use Rattle.goheap_example.proofs.Vocabulary.{All-push, All-rest, All-same, into_iter_items, IsActorOf, IsHandleOf}
 use Rattle.goheap_example.proofs.Each.{first_of}
 use Rattle.goheap_example.proofs.actor.actors_of.Goals as goal
