@@ -1,5 +1,7 @@
 pub mod Vocabulary
 pub mod Counting
+pub mod Earning
+pub mod Globals
 pub mod MarkShades
 pub mod MarkSteps
 pub mod Phases
@@ -8,3 +10,4 @@ pub mod Shaking
 pub mod Sound
 pub mod Sweeping
 pub mod Within
+pub mod Writing

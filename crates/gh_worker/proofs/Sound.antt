@@ -109,7 +109,7 @@ module _ (l : Layout) (w : Working) (x : SoundWorking l w) where
     within_at _ s = let below = x.seat.below in grind arith
 
 -- the rows that it writes at a stage: those of the routine that it runs there
-abbrev rows_at : Layout → WorkerStage → Footprint
+abbrev pub rows_at : Layout → WorkerStage → Footprint
 rows_at l (Sweeping sw) = sweep.writes
 rows_at l (EarningAtStop e stops) = earn.writes
 rows_at l (GiveBack g stops) = (give.listing l).writes
@@ -124,7 +124,7 @@ rows_at l Leave = resume.writes
 rows_at l _ = scan.writes
 
 module _ (k : Known) (l : Layout) (w : Working) where
-  rows_so : (p : WorkerStage) → Writes (rows_at l p) (asks_at l w p)
+  pub rows_so : (p : WorkerStage) → Writes (rows_at l p) (asks_at l w p)
   rows_so (Sweeping sw) = (k.sweep l).writes sw
   rows_so (EarningAtStop e stops) = (k.earn l).writes e
   rows_so (GiveBack g stops) = (k.give l).writes g

@@ -59,7 +59,18 @@ pub fn words_are_counted()
 /// one. What it counts are the words of objects and one for each such global, and at rest nothing.
 pub fn workers_count_globals()
     ensures { WorkersCountGlobals }
-{}
+{
+    footprints_hold();
+    packed_words_are_read_back();
+    earning_is_a_routine();
+    giving_back_is_a_routine();
+    going_on_is_a_routine();
+    entry_taking_is_a_routine();
+    scan_is_a_routine();
+    shading_is_a_routine();
+    room_search_is_a_routine();
+    the_sweep_is_a_routine();
+}
 
 /// Each word that a worker has scanned it hands over to the bank of credit once, or has still to hand over: what its
 /// steps add to the bank is what it counts as handed over. It writes the bank by such additions alone.
