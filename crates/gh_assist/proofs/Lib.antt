@@ -1,6 +1,7 @@
 pub mod Choices
 pub mod Buffers
 pub mod Marking
+pub mod BankFirst
 pub mod Paying
 pub mod Scans
 pub mod Sound

@@ -1,3 +1,4 @@
+pub mod BankFirst
 pub mod Facts
 pub mod Listing
 pub mod Paying

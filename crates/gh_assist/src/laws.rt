@@ -1,5 +1,6 @@
 //! Laws of an assist. The functions do nothing; what they ensure is proved.
 
+ghost use Rattle.gh_assist.specs.BankFirst.{AssistsTryTheBankFirst};
 ghost use Rattle.gh_assist.specs.Facts.{AssistsByMoves};
 ghost use Rattle.gh_assist.specs.Listing.{listing};
 ghost use Rattle.gh_assist.specs.Paying.{AssistsPay};
@@ -45,6 +46,13 @@ pub fn assists_pay()
 {
     credit_is_drawn();
 }
+
+/// Whatever it is told: where words are owed behind its two loads, the third step of an assist looks at the bank, and where that
+/// held words, the fourth tries to take out the lesser of these and of what is owed. No other step of it is on the bank, and
+/// it takes no grey object before.
+pub fn assists_try_the_bank_first()
+    ensures { AssistsTryTheBankFirst }
+{}
 
 /// An assist writes mark bits, buffers and their entries, and the bank by a swap: no word of the handshake of a stop, and none
 /// that a right guards.

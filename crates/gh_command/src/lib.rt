@@ -8,4 +8,4 @@ mod line;
 mod line_laws;
 
 pub use line::{Line, read_line};
-pub use line_laws::{known_lines, numbers_are_in_range};
+pub use line_laws::numbers_are_in_range;

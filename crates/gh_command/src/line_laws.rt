@@ -1,11 +1,6 @@
-//! Laws of the command line's form, whatever reads it.
+//! A law of the command line's form, whatever reads it.
 
-ghost use Rattle.gh_command.specs.CommandLineLaws.{BudgetIsInRange, KnownLines, SizeIsInRange};
-
-/// Lines that are written out, and what each of them asks for.
-pub fn known_lines()
-    ensures { KnownLines }
-{}
+ghost use Rattle.gh_command.specs.CommandLineLaws.{BudgetIsInRange, SizeIsInRange};
 
 /// A budget is from 1 to 1,000,000,000 turns, and a size from 4 to 200,000.
 pub fn numbers_are_in_range()

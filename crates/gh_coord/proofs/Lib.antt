@@ -1,6 +1,5 @@
 pub mod Vocabulary
 pub mod GoingOn
-pub mod Lapsing
 pub mod LastCycle
 pub mod MarkingEnds
 pub mod PartsRoutines

@@ -1,7 +1,7 @@
 -- The second stop of a cycle and its check, step by step.
 use Rattle.std.proofs.Common.{◌≡◌, ℕ, zero, suc, ◌+◌, ◌<◌, ◌≤◌, ◌⊎◌, Bool, true, false, cond, ltb, refl, sym, ap, subst, ◌∙◌, arith, ltb-true, ltb-false}
 use Rattle.std.proofs.lemmas.Bool.{leb-true}
-use Rattle.gh_coord.proofs.Vocabulary.{after_check, after_close, after_stop_again, All, asks, asks_at, at_stage, buffer_of, by_event, Cell, Check, Close, CloseStage, Coordinating, CoordStage, counted, Done, goes_at, Load, nat_tests, NotYet, phase_word, StopAgain, StopStage, Store}
+use Rattle.gh_coord.proofs.Vocabulary.{after_check, after_close, after_stop_again, All, asks, asks_at, at_stage, buffer_of, by_event, Cell, Check, Close, CloseStage, Coordinating, CoordStage, counted, Done, goes_at, Layout, Load, nat_tests, NotYet, phase_word, StopAgain, StopStage, Store}
 use Rattle.gh_base.specs.declared.pack.BufferWord.{BufferWord}
 use Rattle.gh_base.specs.declared.pack.Phase.{Phase}
 use Rattle.gh_coord.specs.MarkingEnds.{EndsWithNothingLeft, Finds, HasNothingLeft, LeavesMarks, NothingIsLeft, state}
@@ -15,6 +15,9 @@ use Rattle.gh_coord.specs.declared.watch.WatchStage.{WatchStage}
 -- what the tests of the listing say of the words
 acked : (stops v : ℕ) → stop.is_acknowledged stops v ≡ true → (v ≡ stops) ⊎ (v ≡ GONE)
 acked stops v e = grind arith
+
+stack_wanted : (l : Layout) (cycle g v : ℕ) → watch.is_wanted l cycle (Cell.Scanned g) v ≡ true → cycle ≤ v
+stack_wanted l cycle g v e = grind (arith, nat_tests)
 
 left : (b : BufferWord) → watch.is_held_or_empty b ≡ true → HasNothingLeft b
 left b e = grind arith
@@ -239,7 +242,7 @@ module _ (run : Run) where
       stops = k.stores;
       acknowledged = k.acknowledged;
       globals = so k.last n Cell.Gcur (IsWanted begun Cell.Gcur) (λ v. run.layout.globals ≤ v) (λ v e. leb-true _ _ e) (k.each 0 (omega arith));
-      stacks = λ g lt. so k.last n (Cell.Scanned g) (IsWanted begun (Cell.Scanned g)) (λ v. begun ≤ v) (λ v e. leb-true _ _ e) (subst Saw (stack_at (g + 1) g refl lt) (k.each (g + 1) (omega arith)));
+      stacks = λ g lt. so k.last n (Cell.Scanned g) (IsWanted begun (Cell.Scanned g)) (λ v. begun ≤ v) (λ v e. stack_wanted run.layout begun g v e) (subst Saw (stack_at (g + 1) g refl lt) (k.each (g + 1) (omega arith)));
       buffers = λ i lt. so k.last n (Cell.Buffer i) (IsWanted begun (Cell.Buffer i)) (λ v. HasNothingLeft (buffer_of v)) (λ v e. left (buffer_of v) e) (subst Saw (buffer_at (run.layout.goroutines + i + 1) i refl) (k.each (run.layout.goroutines + i + 1) (omega arith)));
       leaves = k.leaves;
     }

@@ -134,8 +134,8 @@ module _ (run : Run) where
         load_step (Body b) is k = behind page k (done (Body b) is tt (begun (Body b) is tt))
 
         await_step : (word : PageWord) → page_of (run.found n) ≡ word → Begun s.generation n page → Below s.generation n page → Has (suc n) (walks_to (all.after_await run.layout x page word))
-        await_step (Head h) is was k = by (h.number + 1 == x.generation) refl where
-          by : (d : Bool) → (h.number + 1 == x.generation) ≡ d → Has (suc n) (walked (cond d (SweepAllStage.Await page) (all.behind_of run.layout.pages page)))
+        await_step (Head h) is was k = by (all.is_in_sweep x.generation (Head h)) refl where
+          by : (d : Bool) → all.is_in_sweep x.generation (Head h) ≡ d → Has (suc n) (walked (cond d (SweepAllStage.Await page) (all.behind_of run.layout.pages page)))
           by true f = waits page (begun_on s.generation n none page was) k
           by false f = behind page k (done (Head h) is (λ i. grind (arith, nat_tests)) (begun_on s.generation n none page was))
         await_step Free is was k = behind page k (done Free is tt (begun_on s.generation n none page was))

@@ -5,7 +5,6 @@ pub mod Events
 pub mod GoingOn
 pub mod Handshake
 pub mod Keeping
-pub mod Lapsing
 pub mod Listing
 pub mod MarkingEnds
 pub mod Opening

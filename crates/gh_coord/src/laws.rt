@@ -3,7 +3,6 @@
 ghost use Rattle.gh_base.specs.declared.layout.Layout.{Layout};
 ghost use Rattle.gh_coord.specs.GoingOn.{GoesOnUntilDone};
 ghost use Rattle.gh_coord.specs.Handshake.{LeadsHandshake};
-ghost use Rattle.gh_coord.specs.Lapsing.{TheBankLapses};
 ghost use Rattle.gh_coord.specs.MarkingEnds.{EndsWithNothingLeft};
 ghost use Rattle.gh_coord.specs.PartsRoutines.{PartsAreRoutines, TheCoordinatorIsARoutine};
 ghost use Rattle.gh_coord.specs.Sweeping.{TheCoordinatorRunsSweeps};
@@ -69,15 +68,9 @@ pub fn the_coordinator_runs_sweeps()
     the_parts_are_routines();
 }
 
-/// Where the coordinator turns marking off, what the bank holds lapses, and the bank is empty then: the last two steps
-/// before the one that stores the next sweep generation loaded the bank, and stored 0 there. What that load found has
-/// lapsed, modulo 2^64, and by no other step does credit lapse. No other step of the coordinator writes the bank.
-pub fn the_bank_lapses()
-    ensures { TheBankLapses }
-{}
-
-/// The trigger that the coordinator stores behind a sweep is by the live bytes that its step before has loaded, and the
-/// step before that has loaded the tally. Where it opens a cycle it stores the one that is never reached.
+/// The trigger that the coordinator stores behind a sweep is by the live bytes that its step before has loaded, and lies between
+/// these and the goal that is by them. The step before that has loaded the tally. Where it opens a cycle it stores the one that
+/// is never reached.
 pub fn the_trigger_is_by_what_is_live()
     ensures { TheTriggerIsByWhatIsLive }
 {}

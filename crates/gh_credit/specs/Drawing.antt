@@ -85,6 +85,8 @@ words_given (Some words) = words
 pub record DrawsCredit : Type 0 where
   -- what it gives with a step is what the step takes out of the bank
   pub counts : (d : Drawing) (found : ℕ) → is_busy d.stage ≡ true → words_given (gives d found) ≡ drawn_by (asks d) found
+  -- From its begin: where words are owed, and the bank held some when it looked, its second step is its last. It takes the lesser of what the bank held then and what is owed, if the bank holds that still, and else none.
+  pub takes_lesser : (owed bank found : ℕ) → owed ≢ 0 → bank ≢ 0 → gives (goes (opening owed) bank) found ≡ Some (if found == bank then min bank owed else 0)
   -- no more than is owed
   pub at_most : (d : Drawing) (found words : ℕ) → is_busy d.stage ≡ true → gives d found ≡ Some words → words ≤ d.owed
   -- it takes none by its load exactly where the bank is empty, and by its swap exactly where another changed the bank in between

@@ -6,8 +6,9 @@ ghost use Rattle.gh_credit.specs.Drawing as drawing;
 ghost use Rattle.gh_credit.specs.Drawing.{DrawsCredit};
 ghost use Rattle.gh_credit.specs.Earning as earning;
 
-/// Whatever it is told: the words that a draw gives are those that its steps take out of the bank, and no more than are owed.
-/// It takes none exactly where it finds the bank empty, or another has changed the bank between its two steps.
+/// Whatever it is told: the words that a draw gives are those that its steps take out of the bank. It takes none exactly where
+/// it finds the bank empty, or another has changed the bank between its two steps; else it takes exactly the lesser of what the
+/// bank held and what is owed.
 pub fn credit_is_drawn()
     ensures { DrawsCredit }
 {}

@@ -1,7 +1,7 @@
 -- How cycles are paced: whole numbers of bytes, and of words of 8 bytes. A quotient is rounded down, but that of a debt up.
-use Rattle.std.specs.Prelude.{ℕ, ◌+◌, ◌-◌, ◌*◌, ◌/◌, ◌^◌, ◌≤◌, ◌==◌, if◌then◌else◌, max, Option, Some, None, IfSome}
+use Rattle.std.specs.Prelude.{◌≡◌, ℕ, ◌+◌, ◌-◌, ◌*◌, ◌/◌, ◌^◌, ◌≤◌, ◌==◌, if◌then◌else◌, max, Option, Some, None, IfSome}
 use Rattle.std.specs.Int.{div_ceil}
-use Rattle.gh_pacer.specs.declared.pacing.TheConstants.{MOST_GOAL}
+use Rattle.gh_pacer.specs.declared.pacing.TheConstants.{MOST_GOAL, NEVER}
 
 -- the bytes of the roots: each global is a word, and each goroutine has 16 registers
 abbrev pub roots : (globals goroutines : ℕ) → ℕ
@@ -19,6 +19,11 @@ FitsGoal goal = IfSome goal (λ bytes. bytes ≤ MOST_GOAL)
 abbrev pub trigger : (live : ℕ) → (goal : Option ℕ) → ℕ
 trigger live None = 2 ^ 64 - 1
 trigger live (Some bytes) = live + 7 * (bytes - live) / 10
+
+-- Where the bytes lie at which a cycle is asked for: between what was live and the goal, if the goal is not below what was live, and else at what was live. Without a goal no heap reaches them.
+abbrev pub LiesBetween : (live : ℕ) → (goal : Option ℕ) → (bytes : ℕ) → Type 0
+LiesBetween live None bytes = bytes ≡ NEVER
+LiesBetween live (Some most) bytes = (live ≤ most → (live ≤ bytes) × (bytes ≤ most)) × (most ≤ live → bytes ≡ live)
 
 -- the words that are to be scanned in a cycle
 abbrev pub work : (live roots : ℕ) → (goal : Option ℕ) → ℕ

@@ -1,7 +1,7 @@
 //! The goal, the trigger, and what who allocates owes.
 
-ghost use Rattle.std.specs.Prelude.{◌≡◌, ◌*◌, ◌+◌, ◌≤◌, ◌^◌};
-ghost use Rattle.gh_pacer.specs.Pacing.{FitsGoal, debt, goal, roots, slack, trigger, work};
+ghost use Rattle.std.specs.Prelude.{◌≡◌, ◌*◌, ◌+◌, ◌≤◌, ◌^◌, IfSome};
+ghost use Rattle.gh_pacer.specs.Pacing.{FitsGoal, LiesBetween, debt, goal, roots, slack, trigger, work};
 
 /// The most bytes of each number that a goal is made of: 2^40.
 pub const MOST_BYTES: u64 = 1 << 40;
@@ -33,6 +33,7 @@ pub fn goal(live: u64, roots: u64, gogc: u64, minheap: u64) -> Option<u64>
     requires gogc { gogc ≤ MOST_GOGC }
     requires minheap { minheap ≤ MOST_BYTES }
     ensures is { result ≡ goal live roots gogc minheap }
+    ensures least { IfSome result (λ bytes. (live ≤ bytes) × (minheap ≤ bytes)) }
     ensures fits { FitsGoal result }
 {
     if gogc == 0 {
@@ -46,7 +47,8 @@ pub fn goal(live: u64, roots: u64, gogc: u64, minheap: u64) -> Option<u64>
 pub fn trigger(live: u64, goal: Option<u64>) -> u64
     requires live { live ≤ MOST_BYTES }
     requires goal { FitsGoal goal }
-    ensures { result ≡ trigger live goal }
+    ensures is { result ≡ trigger live goal }
+    ensures lies { LiesBetween live goal result }
 {
     match goal {
         None => NEVER,

@@ -5,5 +5,6 @@ pub mod Shaking
 pub mod Routines
 pub mod Sound
 pub mod StackMarking
+pub mod Turning
 pub mod Vocabulary
 pub mod Waits

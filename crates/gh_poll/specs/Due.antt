@@ -1,8 +1,8 @@
 -- Which stack is due: one of the processor's, whose goroutine has not ended, and which was not scanned in the cycle.
-use Rattle.std.proofs.Common.{◌≡◌, ◌≢◌, ℕ, zero, suc, ◌+◌, ◌%◌, ◌<◌, Bool, true, false, cond, eqb, List, [], ◌∷◌, drop, Some, None, refl, sym, ap, subst, ◌∙◌, arith, slice_index}
+use Rattle.std.proofs.Common.{◌≡◌, ◌≢◌, ℕ, zero, suc, ◌+◌, ◌%◌, ◌<◌, Bool, true, false, cond, List, [], ◌∷◌, drop, Some, None, refl, sym, ap, subst, ◌∙◌, arith, slice_index}
 use Rattle.std.proofs.lemmas.List.{drop-drop}
 use Rattle.gh_poll.specs.Vocabulary.{END, Ended, Layout, Local}
-use Rattle.gh_poll.specs.Poll.{due, first_due, is_due, Polling}
+use Rattle.gh_poll.specs.Poll.{due, first_due, is_due, is_turn, Polling}
 
 pub record IsUnscanned (l : Layout) (seat : ℕ) (local : Local) (g : ℕ) : Type 0 where
   pub there : g < l.goroutines
@@ -10,12 +10,12 @@ pub record IsUnscanned (l : Layout) (seat : ℕ) (local : Local) (g : ℕ) : Typ
   pub going : slice_index local.scanned g ≢ END
   pub unscanned : slice_index local.scanned g ≢ local.view.begun
 
-index_is : (i : ℕ) (xs : List ℕ) (v : ℕ) (vs : List ℕ) → drop i xs ≡ v ∷ vs → slice_index xs i ≡ v
+pub index_is : (i : ℕ) (xs : List ℕ) (v : ℕ) (vs : List ℕ) → drop i xs ≡ v ∷ vs → slice_index xs i ≡ v
 index_is zero xs v vs e = ap (λ (ys : List ℕ). slice_index ys 0) e
 index_is (suc i) [] v vs e = absurd (cc)
 index_is (suc i) (x ∷ xs) v vs e = index_is i xs v vs e
 
-drop_next : (i : ℕ) (xs : List ℕ) (v : ℕ) (vs : List ℕ) → drop i xs ≡ v ∷ vs → drop (i + 1) xs ≡ vs
+pub drop_next : (i : ℕ) (xs : List ℕ) (v : ℕ) (vs : List ℕ) → drop i xs ≡ v ∷ vs → drop (i + 1) xs ≡ vs
 drop_next i xs v vs e = sym (drop-drop 1 i xs) ∙ ap (drop 1) e
 
 module _ (l : Layout) (seat : ℕ) (waits : Bool) (local : Local) where
@@ -23,7 +23,7 @@ module _ (l : Layout) (seat : ℕ) (waits : Bool) (local : Local) where
   ended = record { seat = seat; waits = waits; local = local; stage = Ended }
 
   pub due_scans : (g : ℕ) → due l ended ≡ Some g → IsUnscanned l seat local g
-  due_scans g e = by (eqb (local.polls % 4) 0) e where
+  due_scans g e = by (is_turn local.polls) e where
     wants : (i : ℕ) → is_due l seat local.view.begun i (slice_index local.scanned i) ≡ true → IsUnscanned l seat local i
     wants i e = grind arith
 

@@ -20,6 +20,7 @@ pub mod Quiet
 pub mod Registers
 pub mod Room
 pub mod Stays
+pub mod Turns
 pub mod Wait
 pub mod WaitSound
 pub mod Vocabulary

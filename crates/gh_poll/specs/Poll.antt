@@ -34,9 +34,12 @@ abbrev pub first_due : Layout → (seat cycle g : ℕ) → List ℕ → Option �
 first_due l seat cycle g [] = None
 first_due l seat cycle g (last ∷ others) = if is_due l seat cycle g last then Some g else first_due l seat cycle (g + 1) others
 
--- every fourth poll scans a stack
+-- after so many polls of its cycle the next scans a stack: it is the first, or the fourth after such a one
+abbrev pub is_turn : (polls : ℕ) → Bool
+is_turn polls = polls % 4 == 0
+
 abbrev pub due : Layout → Polling → Option ℕ
-due l p = if p.local.polls % 4 == 0 then first_due l p.seat p.local.view.begun 0 p.local.scanned else None
+due l p = if is_turn p.local.polls then first_due l p.seat p.local.view.begun 0 p.local.scanned else None
 
 -- a buffer is held, and two entries go into it
 abbrev pub has_two : Option Held → Bool

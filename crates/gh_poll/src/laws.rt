@@ -10,6 +10,7 @@ ghost use Rattle.gh_poll.specs.Wait as waits;
 ghost use Rattle.gh_poll.specs.Handshake.{LeavesInHandshake, PollsInHandshake, WaitsInHandshake};
 ghost use Rattle.gh_poll.specs.MarkFacts.{LeavesByMoves, PollsByMoves, WaitsByMoves};
 ghost use Rattle.gh_poll.specs.Quiet.{WhatPollsRunIsQuiet};
+ghost use Rattle.gh_poll.specs.Turns.{PollsScanInTurn};
 
 use gh_base::laws::footprints_hold;
 use gh_class::size_class_laws;
@@ -50,6 +51,13 @@ pub fn polls_are_routines()
     room_search_is_a_routine();
     shading_is_a_routine();
 }
+
+/// Whatever it is told: a poll that ends while marking is on is counted, and scans one stack where it is the first of its cycle, or
+/// the fourth after such a one: that of the lowest goroutine of the processor which has not ended and was not scanned in the
+/// cycle. Any other poll scans none.
+pub fn polls_scan_in_turn()
+    ensures { PollsScanInTurn }
+{}
 
 /// Neither the giving back that a poll and a leave run, nor the scan of a stack in a poll, writes a word of the handshake of a
 /// stop.

@@ -5,7 +5,6 @@ ghost use Rattle.gh_base.specs.Machines.{IsRoutine};
 ghost use Rattle.gh_sweep.specs.Alone.{SpansAreSwept};
 ghost use Rattle.gh_sweep.specs.AtEnd.{EndsWell, TheBitsAreObjects};
 ghost use Rattle.gh_sweep.specs.Bits.{SetBitsAreCounted};
-ghost use Rattle.gh_sweep.specs.Counts.{ObjectsAreCounted};
 ghost use Rattle.gh_sweep.specs.Facts.{SweepKeepsItsFacts};
 ghost use Rattle.gh_sweep.specs.Joined.{SpansFit};
 ghost use Rattle.gh_sweep.specs.Listing.{listing};
@@ -36,14 +35,6 @@ pub fn set_bits_are_counted()
 pub fn sweep_takes_its_steps()
     ensures { SweepTakesItsSteps }
 {}
-
-/// Where the words found are those of two rows, whatever else changes meanwhile, a sweep keeps the
-/// objects that are marked there and frees the others, and all that its steps write is of these rows.
-pub fn objects_are_counted()
-    ensures { ObjectsAreCounted }
-{
-    rows_are_written();
-}
 
 /// Run alone from words that have the head, a sweep keeps exactly the objects that are marked, clears
 /// the marks, changes the counts by what it kept and freed, and changes nothing else.

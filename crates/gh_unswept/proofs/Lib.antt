@@ -1,3 +1,2 @@
-mod EachSwept
 mod FirstUnswept
 pub mod Vocabulary

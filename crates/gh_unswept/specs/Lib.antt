@@ -1,3 +1,2 @@
 pub mod FirstUnswept
-pub mod EachSwept
 pub mod Vocabulary

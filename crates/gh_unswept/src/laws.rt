@@ -1,6 +1,5 @@
-//! Laws of whole passes over unswept spans. The functions do nothing; what they ensure is proved.
+//! The law of a whole pass over unswept spans. The function does nothing; what it ensures is proved.
 
-ghost use Rattle.gh_unswept.specs.EachSwept.{TheReclaimingSweepsEach};
 ghost use Rattle.gh_unswept.specs.FirstUnswept.{TheUnsweptPassTakesTheFirst};
 
 /// Whatever words it is told, the pass for an unswept span gives a page only where it was told that the head of a wanted
@@ -9,10 +8,4 @@ ghost use Rattle.gh_unswept.specs.FirstUnswept.{TheUnsweptPassTakesTheFirst};
 /// so of all pages.
 pub fn the_unswept_pass_takes_the_first()
     ensures { TheUnsweptPassTakesTheFirst }
-{}
-
-/// Whatever words it is told, `Reclaim` ends only where it has met each page, and each span there that nobody owned was
-/// swept, or it has swept it, or it has waited until another who had begun to sweep it was done.
-pub fn the_reclaiming_sweeps_each()
-    ensures { TheReclaimingSweepsEach }
 {}

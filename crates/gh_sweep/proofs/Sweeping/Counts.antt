@@ -1,8 +1,7 @@
 -- The bits kept and freed, word after word, are the span's objects by their two bits.
-use Rattle.std.proofs.Common.{◌≡◌, ℕ, zero, suc, ◌+◌, ◌*◌, ◌/◌, ◌%◌, ◌^◌, ◌<◌, eqb, refl, sym, ap, ◌∙◌, arith, ◌&&◌, not}
-use Rattle.gh_sweep.proofs.Vocabulary.{Add, alloc_told, And, AreTold, AreWords, bit, bit_at, bit_words, Cell, freed_in, freed_told, is_set, kept_in, kept_told, Layout, marked_objects, marks_told, negative, ObjectsAreCounted, Row, row_bit, RowsAreWritten, slot_bytes, span_of, SpanHead, steps_on_bits, sum_below, SweepsAsTold, unmarked_objects}
+use Rattle.std.proofs.Common.{◌≡◌, ℕ, zero, suc, ◌+◌, ◌*◌, ◌/◌, ◌%◌, ◌<◌, eqb, sym, ap, ◌∙◌, arith, ◌&&◌, not}
+use Rattle.gh_sweep.proofs.Vocabulary.{alloc_told, AreTold, AreWords, bit, bit_at, bit_words, freed_in, freed_told, is_set, kept_in, kept_told, Layout, marked_objects, marks_told, Row, row_bit, RowsAreWritten, SpanHead, sum_below, unmarked_objects}
 use Rattle.gh_sweep.proofs.Bits.{freed_bits, kept_bits, sum_behind, sum_more, sum_none, sum_same}
-use Rattle.gh_sweep.proofs.Sweeping.Steps.{takes_its_steps}
 
 -- a sum of words is that of their bits
 pub by_words : (f g : ℕ → ℕ) (n : ℕ) → ((i : ℕ) → i < n → g i ≡ sum_below (λ j. f (64 * i + j)) 64) → sum_below g n ≡ sum_below f (64 * n)
@@ -45,22 +44,3 @@ module _ (rows : RowsAreWritten) (alloc mark : Row) (l : Layout) (page : ℕ) (h
 
   pub freed_counted : freed_told found (bit_words head) ≡ unmarked_objects alloc mark page head.pages
   freed_counted = grind (arith, all_words, by_words, freed_word)
-
-pub counts : RowsAreWritten → ObjectsAreCounted
-counts rows alloc mark l page head found arena alloc_fits mark_fits begun told = record {
-  kept_are = kept;
-  freed_are = freed;
-  clears_bits = λ i lt. (steps.on_words begun i lt).clears_bits ∙ ap (λ (m : ℕ). And (Cell.Alloc (16 * page + i)) m) (told.marks_are i lt);
-  adds_tally = (steps.on_counts begun).adds_tally ∙ ap (λ (k : ℕ). Add Cell.Tally (k + 2 ^ 32 * freed_told found (bit_words head))) kept ∙ ap (λ (f : ℕ). Add Cell.Tally (marked_objects alloc mark page head.pages + 2 ^ 32 * f)) freed;
-  adds_live = (steps.on_counts begun).adds_live ∙ ap (λ (k : ℕ). Add Cell.Live (k * slot_bytes head)) kept;
-  adds_heap = (steps.on_counts begun).adds_heap ∙ ap (λ (f : ℕ). Add Cell.Heap (negative (f * slot_bytes head))) freed;
-  gives_counts = ((steps.swept (steps_on_bits head + 3) _).1 (begun, refl, ap (λ (k : ℕ). span_of head k (unmarked_objects alloc mark page head.pages)) (sym kept) ∙ ap (λ (f : ℕ). span_of head (kept_told found (bit_words head)) f) (sym freed))).1;
-} where
-  steps : SweepsAsTold l page head found
-  steps = takes_its_steps l page head found arena
-
-  kept : kept_told found (bit_words head) ≡ marked_objects alloc mark page head.pages
-  kept = kept_counted rows alloc mark l page head found alloc_fits mark_fits told
-
-  freed : freed_told found (bit_words head) ≡ unmarked_objects alloc mark page head.pages
-  freed = freed_counted rows alloc mark l page head found alloc_fits mark_fits told
