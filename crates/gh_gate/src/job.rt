@@ -1,5 +1,10 @@
 //! What is run in a thread of its own, and what runs many of them beside each other.
-ghost use Rattle.std.specs.Prelude.{◌≡◌, ℕ, ◌<◌, ◌≤◌, All, IfOk, IfErr, OnOk, OnErr, IsErr, IsFalse, false, vec_len};
+//!
+//! That a count of a [`Spawner`] rose shows whoever called that jobs were run in threads, or that a thread could not be had.
+//! So both counts rise in [`Spawner::all`] alone: the methods that count ask for a [`CountToken`], which has a private field
+//! and is made nowhere but in `all`. Else a caller could count by itself, and answer that no thread could be had without
+//! asking for one, or that jobs were run, with no thread.
+ghost use Rattle.std.specs.Prelude.{◌≡◌, ℕ, ◌<◌, ◌≤◌, All, IfOk, IfErr, OnOk, OnErr, IsErr, false, vec_len};
 ghost use Rattle.gh_gate.specs.Counts.{Rose};
 ghost use Rattle.gh_gate.specs.Jobs.{AllHaveRun};
 ghost use Rattle.gh_gate.specs.Refusals.{given_back, IsCounted};
@@ -38,9 +43,16 @@ pub enum Refused<J> {
     Memory(Vec<J>),
 }
 
+/// The right to count what came of jobs. `all` of a [`Spawner`] makes it and lends it to the spawner's own methods; it can be
+/// made nowhere else, nor kept.
+#[derive(Drop)]
+pub struct CountToken {
+    of_all: (),
+}
+
 /// What runs many jobs, which may wait for each other. It keeps two counts, each of which may stand still at the greatest
-/// u64: its faults, and how often jobs were run. Those who make one say whether it starts threads and how it counts; all
-/// else is `all`, which is one for all spawners.
+/// u64: its faults, and how often jobs were run. Both rise in `all` alone. Those who make one say whether it starts threads
+/// and how it counts; all else is `all`, which is one for all spawners.
 pub trait Spawner {
     /// How many faults there were so far.
     ghost faults: { Self → ℕ };
@@ -51,21 +63,18 @@ pub trait Spawner {
     /// It never starts a thread.
     ghost refuses: { Self → Type 0 };
 
-    /// Whether it starts threads at all. Where it does not, it counts a fault.
-    fn may_start(&mut self) -> bool
-        ensures refused { refuses self.old → result ≡ false }
-        ensures failed { IsFalse result → Rose (faults self.old) (faults self.new) }
-        ensures faults_never_fall { faults self.old ≤ faults self.new }
-        ensures none_ran { ran self.new ≡ ran self.old };
+    /// Whether it starts threads at all.
+    fn may_start(&self) -> bool
+        ensures { refuses self.now → result ≡ false };
 
-    /// Counts a thread that could not be made.
-    fn count_fault(&mut self)
+    /// Counts that a thread could not be had.
+    fn count_fault(&mut self, token: &CountToken)
         ensures failed { Rose (faults self.old) (faults self.new) }
         ensures faults_never_fall { faults self.old ≤ faults self.new }
         ensures none_ran { ran self.new ≡ ran self.old };
 
     /// Counts that jobs were run.
-    fn count_run(&mut self)
+    fn count_run(&mut self, token: &CountToken)
         ensures rose { Rose (ran self.old) (ran self.new) }
         ensures ran_never_falls { ran self.old ≤ ran self.new }
         ensures no_fault { faults self.new ≡ faults self.old };
@@ -88,18 +97,21 @@ pub trait Spawner {
         ensures kept { IfErr result (λ refused. given_back refused ≡ jobs.items) }
         ensures failed { IfErr result (λ refused. IsCounted refused (faults self.old) (faults self.new)) }
         ensures none_ran { OnErr result (ran self.new ≡ ran self.old) }
+        ensures no_fault { OnOk result (faults self.new ≡ faults self.old) }
         ensures faults_never_fall { faults self.old ≤ faults self.new }
         ensures ran_never_falls { ran self.old ≤ ran self.new }
     {
+        let token = CountToken { of_all: () };
         if !self.may_start() {
+            self.count_fault(&token);
             return Err(Refused::Thread(jobs));
         }
         let (jobs, ran) = all_or_none(rt, jobs);
         if ran {
-            self.count_run();
+            self.count_run(&token);
             Ok(jobs)
         } else {
-            self.count_fault();
+            self.count_fault(&token);
             Err(Refused::Thread(jobs))
         }
     }

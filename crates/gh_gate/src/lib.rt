@@ -26,6 +26,6 @@ mod start;
 mod threads;
 
 pub use gate::{Gate, Open};
-pub use job::{Job, Refused, Spawner};
+pub use job::{CountToken, Job, Refused, Spawner};
 pub use refusing::NoSpawn;
 pub use threads::Threads;

@@ -1,7 +1,7 @@
 //! No threads.
 ghost use Rattle.std.specs.Prelude.{◌≡◌, ℕ, ⊤};
 
-use crate::job::Spawner;
+use crate::job::{CountToken, Spawner};
 
 /// Refuses each time, and counts a fault. It stands for a system that makes no thread.
 #[derive(Drop)]
@@ -26,16 +26,15 @@ impl Spawner for NoSpawn {
 
     ghost refuses = { λ _. ⊤ };
 
-    fn may_start(&mut self) -> bool {
-        self.count_fault();
+    fn may_start(&self) -> bool {
         false
     }
 
-    fn count_fault(&mut self) {
+    fn count_fault(&mut self, _token: &CountToken) {
         self.faults = self.faults.saturating_add(1);
     }
 
-    fn count_run(&mut self) {
+    fn count_run(&mut self, _token: &CountToken) {
         self.ran = self.ran.saturating_add(1);
     }
 }

@@ -1,7 +1,7 @@
 //! Real threads.
 ghost use Rattle.std.specs.Prelude.{◌≡◌, ℕ};
 
-use crate::job::Spawner;
+use crate::job::{CountToken, Spawner};
 
 /// Starts one thread for each job. It refuses where the system makes no thread.
 #[derive(Drop)]
@@ -26,15 +26,15 @@ impl Spawner for Threads {
 
     ghost refuses = { λ _. ⊥ };
 
-    fn may_start(&mut self) -> bool {
+    fn may_start(&self) -> bool {
         true
     }
 
-    fn count_fault(&mut self) {
+    fn count_fault(&mut self, _token: &CountToken) {
         self.faults = self.faults.saturating_add(1);
     }
 
-    fn count_run(&mut self) {
+    fn count_run(&mut self, _token: &CountToken) {
         self.ran = self.ran.saturating_add(1);
     }
 }

@@ -22,9 +22,9 @@
 //! What a table is made for is its [`Plan`], which says what is legal. The plan is the table's key and stands in each
 //! view, and no reference may stand in either. A proof about seats that go to another thread could not name its lifetime.
 //!
-//! A step tells its machine the word that it found, a Store too (`gh_base`, `Machine`), so a Store is made by the table's
-//! swap. The table's own store finds nothing; what a machine does behind a Store would have to be known not to
-//! depend on the word, which is a fact of each listing and is not said of them.
+//! A step tells its machine the word that it found (`gh_base`, `Machine`). The table's own store finds none, so after a Store
+//! the machine is told 0: where it goes then does not depend on the word that it overwrites, which is a fact of each listing and is
+//! proved of them (`StoresAreBlind`).
 #![tactic(auto)]
 
 mod acts;

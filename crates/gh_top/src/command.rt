@@ -68,8 +68,8 @@ pub fn quiet<S: Source, K: Sink>(
 /// `run` reads a script, as `replay` does, runs each of its actors in a thread of its own, which `sp` starts, and writes the
 /// same lines. `soak --seed n --size n` reads nothing, runs the script that `gen` writes by threads, and writes two lines: how
 /// many statements that has, and what is live at the end. Whoever stepped when, these are the same two. The actors are held
-/// by the gate between their steps. Nothing is written before all threads have ended, and where no threads can be had no
-/// actor makes a step. A call that runs threads may wait.
+/// by the gate between their steps. Nothing is written before all threads have ended, and where no threads can be had or
+/// memory runs out no actor makes a step. A call that runs threads may wait.
 pub fn top<R: thread::Threads + Wait + Sync, S: Source, K: Sink, G: Gate + Sync, P: Spawner>(
     rt: &R,
     alloc: Global,
@@ -96,6 +96,8 @@ pub fn top<R: thread::Threads + Wait + Sync, S: Source, K: Sink, G: Gate + Sync,
         ComesTo (Soak seed size) text Status.Ok written → Appends (K.taken out.old) (K.taken out.new) written }
     // What is told of threads was run by them.
     ensures ran { IsForThreads (texts words.now) → result ≡ Status.Ok → Rose (P.ran sp.old) (P.ran sp.new) }
+    // Where the call ends otherwise, and no write failed, no job made a step: memory runs out before the first step alone.
+    ensures none_ran { ¬ (result ≡ Status.Ok) → ¬ (result ≡ Status.WriteFault) → P.ran sp.new ≡ P.ran sp.old }
     // A spawner that refuses runs nothing.
     ensures refused { P.refuses sp.old → IsForThreads (texts words.now) → result ≡ Status.Ok → ⊥ }
     ensures no_thread { result ≡ Status.NoThread → Rose (P.faults sp.old) (P.faults sp.new) }

@@ -1,6 +1,6 @@
 //! Finding what there is to say of words that ask for threads.
 
-ghost use Rattle.std.specs.Prelude.{◌≡◌, IfOk, IsErr, OnOk, IfErr, ℕ, ◌≤◌, List, false};
+ghost use Rattle.std.specs.Prelude.{◌≡◌, IfOk, IsErr, OnOk, OnErr, IfErr, ℕ, ◌≤◌, List, false};
 ghost use Rattle.gh_gate.specs.Counts.{Rose};
 ghost use Rattle.gh_replay.specs.Report.{is_checked, IsReportOf};
 ghost use Rattle.gh_run.specs.Told.{IsRunByThreads};
@@ -39,6 +39,7 @@ pub fn find_by_threads<R: thread::Threads + Wait + Sync, S: Source, G: Gate + Sy
     ensures found { IsFound (Matches (texts words.now)) (S.left src.old) (S.left src.new) (S.faults src.old) (S.faults src.new) result }
     ensures unread { ¬ ReadsScript (texts words.now) → src.new ≡ src.old }
     ensures ran { status_of result ≡ Ok → Rose (P.ran sp.old) (P.ran sp.new) }
+    ensures none_ran { ¬ (status_of result ≡ Ok) → P.ran sp.new ≡ P.ran sp.old }
     ensures refused { P.refuses sp.old → status_of result ≡ Ok → ⊥ }
     ensures no_thread { result ≡ Found.NoThread → Rose (P.faults sp.old) (P.faults sp.new) }
     ensures ran_never_falls { P.ran sp.old ≤ P.ran sp.new }
@@ -53,7 +54,8 @@ pub fn find_by_threads<R: thread::Threads + Wait + Sync, S: Source, G: Gate + Sy
             numbers_are_in_range();
             soak(rt, alloc, seed, size as u32, gate, sp)
         }
-        _ => Found::NoMemory,
+        Ok(_) => unreachable!(),
+        Err(_) => Found::NoMemory,
     }
 }
 
@@ -69,6 +71,7 @@ fn run_script<R: thread::Threads + Wait + Sync, G: Gate + Sync, P: Spawner>(
     ensures read { result ≡ Found.ReadFault → ⊥ }
     ensures tellable { IsTellable result }
     ensures ran { status_of result ≡ Ok → Rose (P.ran sp.old) (P.ran sp.new) }
+    ensures none_ran { ¬ (status_of result ≡ Ok) → P.ran sp.new ≡ P.ran sp.old }
     ensures refused { P.refuses sp.old → status_of result ≡ Ok → ⊥ }
     ensures no_thread { result ≡ Found.NoThread → Rose (P.faults sp.old) (P.faults sp.new) }
     ensures ran_never_falls { P.ran sp.old ≤ P.ran sp.new }
@@ -93,6 +96,7 @@ fn reported<R: thread::Threads + Wait + Sync, G: Gate + Sync, P: Spawner>(
     ensures unchecked { IfOk result (λ report. is_checked report ≡ false) }
     ensures of { IfOk result (IsReportOf script.now) }
     ensures ran { OnOk result (Rose (P.ran sp.old) (P.ran sp.new)) }
+    ensures none_ran { OnErr result (P.ran sp.new ≡ P.ran sp.old) }
     ensures refused { P.refuses sp.old → IsErr result }
     ensures no_thread { IfErr result (λ fault. fault ≡ NoThread → Rose (P.faults sp.old) (P.faults sp.new)) }
     ensures ran_never_falls { P.ran sp.old ≤ P.ran sp.new }
@@ -133,6 +137,7 @@ fn soak<R: thread::Threads + Wait + Sync, G: Gate + Sync, P: Spawner>(
     ensures read { result ≡ Found.ReadFault → ⊥ }
     ensures tellable { IsTellable result }
     ensures ran { status_of result ≡ Ok → Rose (P.ran sp.old) (P.ran sp.new) }
+    ensures none_ran { ¬ (status_of result ≡ Ok) → P.ran sp.new ≡ P.ran sp.old }
     ensures refused { P.refuses sp.old → status_of result ≡ Ok → ⊥ }
     ensures no_thread { result ≡ Found.NoThread → Rose (P.faults sp.old) (P.faults sp.new) }
     ensures ran_never_falls { P.ran sp.old ≤ P.ran sp.new }
@@ -147,7 +152,8 @@ fn soak<R: thread::Threads + Wait + Sync, G: Gate + Sync, P: Spawner>(
     let script = match parse(alloc, &text) {
         Ok(script) => script,
         // A generated text is never refused.
-        Err(ParseError::Script(_)) | Err(ParseError::NoMemory) => return Found::NoMemory,
+        Err(ParseError::Script(_)) => unreachable!(),
+        Err(ParseError::NoMemory) => return Found::NoMemory,
     };
     match run(rt, alloc, &script, gate, sp) {
         Ok(ThreadRun { objects, live, .. }) => Found::Soaked {
