@@ -8,5 +8,6 @@ pub mod Phases
 pub mod Scans
 pub mod SweepMarks
 pub mod OwnedSpans
+pub mod NoRoom
 pub mod AllOf
 pub mod Opened

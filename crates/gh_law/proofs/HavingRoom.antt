@@ -2,3 +2,4 @@
 pub mod Hands
 pub mod Marked
 pub mod Always
+pub mod Passing

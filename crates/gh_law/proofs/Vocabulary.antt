@@ -40,9 +40,10 @@ pub use Rattle.gh_law.specs.Actors.{AllStands, AllWereOpened, AwaitedCycle, Awai
 pub use Rattle.gh_law.specs.Asked.{AllWereAsked, AsksForCycle, IsClearing, NoneOpensSince, OpensCycle, SawTriggerReached, WasAsked, WasOpened}
 pub use Rattle.gh_law.specs.Credit.{at, CreditStands, earned_in, IsSettled, lapsed_by, lapsed_in, left_among, left_at, spent_among, spent_at, spent_in}
 pub use Rattle.gh_law.specs.Phases.{EndsInOrder, FindsTheStop, IsMarkingStep, IsStopped, MarksInPhase, PhasesAreKnown, PhasesStand, StandsEmpty, StandsStill}
-pub use Rattle.gh_law.specs.Room.{RoomStands}
+pub use Rattle.gh_law.specs.Room.{AnotherSteps, FindsItGone, FindsNoRoom, IsEntryOf, LoadsBuffer, LosesBuffer, PassesAll, RoomStands, StandsSince}
 pub use Rattle.gh_law.specs.Scans.{ScansIn, ScansOnce}
-pub use Rattle.gh_law.specs.SweepMarks.{CachedAreSwept, EachSpanIsSwept, IsRunning, IsUncut, MarksAreLeft, OwnedAreSwept, SaysHowFar, SpansAreNumbered, SweepsStand}
+pub use Rattle.gh_law.specs.Searches.{EndsWithoutRoom, HasNoRoom, NoneMeansNoRoom}
+pub use Rattle.gh_law.specs.SweepMarks.{CachedAreSwept, EachSpanIsSwept, HoldsItsOwn, IsOwnSpan, IsRunning, IsUncut, MarksAreLeft, OwnedAreSwept, SaysHowFar, SpansAreNumbered, SweepsStand}
 pub use Rattle.gh_law.specs.Vocabulary.{acks_of, Actor, actors, actors_after, answers_of, Ask, before_step, Begins, begun_in, by, Cell, Coordinating, Done, Entry, Ever, Given, given_of, InRange, IsBeginning, IsInLimits, IsLed, IsPlacedAt, IsStartOf, Layout, Legal, ListStands, Name, only_polls, Op, Open, opening_words, Or, own, place_of, Processor, Reach, scanned_in, seats_of, Setup, setup_for, ShapesAreGood, started, state_of, Store, those, total, Words, words}
 pub use Rattle.gh_lists.specs.Changes.{begins, Change, ends, Rises, same, tells}
 pub use Rattle.gh_lists.specs.Going.{ClosingIsBusy, goes_then, led_then}
@@ -58,6 +59,7 @@ pub use Rattle.gh_lists.specs.SumsBelow.{sum_more, sum_none, sum_same}
 pub use Rattle.gh_lists.specs.Sweeping.{asks_by_sweep, idle_sweeps_none}
 pub use Rattle.gh_lists.specs.Wants.{AreFew, CountsWants, IsToOpen}
 pub use Rattle.gh_lists.specs.Writing.{awake_at, knows_at, leaves_numbers}
+pub use Rattle.gh_marked.specs.Tied.{TiesShowWhatThereIs}
 pub use Rattle.gh_marks.specs.Colours.{Buffered, buffers_as_held, Colour, Cycle, IsShaded, Shared as Marking}
 pub use Rattle.gh_model.specs.Ever.{answer_of, answer_of_value, ever_after, is_number, load_answer, next_name, opening_ever, sets_global, store_answer, stores_value, takes_answer, with_end, with_object, with_register}
 pub use Rattle.gh_mutator.specs.Deeds.{acted, deeds, has_point, processor_kind}

@@ -13,10 +13,12 @@ use Rattle.gh_lists.specs.Counts.{CountsPlainly}
 use Rattle.gh_holds.specs.Below.{CycleIsDrawn, HeapIsCounted, SpansStand}
 use Rattle.gh_law.specs.Phases.{PhasesStand}
 use Rattle.gh_law.specs.Scans.{ScansOnce}
+use Rattle.gh_law.specs.Searches.{NoneMeansNoRoom}
 use Rattle.gh_law.specs.SweepMarks.{SweepsStand}
 use Rattle.gh_lists.specs.Lists as lists
 use Rattle.gh_holds.specs.Objects.{AreNamed}
 use Rattle.gh_holds.specs.Objects as objects
+use Rattle.gh_marked.specs.Tied.{ShowsWhatThereIs}
 
 -- A heap that is set up so.
 module _ (setup : Setup) where
@@ -123,6 +125,8 @@ module _ (setup : Setup) where
 
   pub record AllStands (es : List (Entry Op)) : Type 0 where
     pub stands : ListStands arena (opening_words setup.pacing.trigger) es
+    -- whichever search for a slot ends without room, the first of a `new` or the one after its wait, there was none
+    pub no_room : NoneMeansNoRoom setup es
     pub awaits : Awaits es
     pub within : StepsWithin es
     pub objects : AreNamed (ever es).made (words es)
@@ -146,6 +150,8 @@ module _ (setup : Setup) where
     pub spans : SpansStand setup.shapes setup.layout (words es)
     pub phases : PhasesStand setup es
     pub drawn : (c : Coordinating) → IsLed es c → leading.Marks c.stage → CycleIsDrawn setup es c
+    -- and its state of marking has what there is, so it is no empty one
+    pub shows : (c : Coordinating) (led : IsLed es c) (on : leading.Marks c.stage) → ShowsWhatThereIs setup es (drawn c led on).shared
     pub counts : (c : Coordinating) → IsLed es c → AllWereCounted es c
     pub said : (c : Coordinating) → IsLed es c → CountsAreSaid es c
     -- at every moment the heap's word is the bytes of the slots of all objects that stand, less those that are placed and not counted yet, and with those that sweeps have cleared and not taken off yet

@@ -5,6 +5,7 @@ use Rattle.gh_coord.specs.Handshake as leading
 use Rattle.gh_credit.specs.Drawing.{drawn_by}
 use Rattle.gh_credit.specs.Earning.{handed_by}
 use Rattle.gh_mutator.specs.Spending.{spent_of}
+use Rattle.gh_law.specs.Phases.{IsStopped}
 
 -- by a store the word that it replaced has lapsed
 abbrev pub lapsed_by : Ask → (found : ℕ) → ℕ
@@ -61,6 +62,8 @@ module _ (setup : Setup) where
     pub few : scanned_in setup es < 2 ^ 48
     -- what processors have drawn is what was spent
     pub drawn : spent_in es ≡ spent_among (at es) (seats_of setup.layout)
+    -- in a stopped world no worker has any left
+    pub stopped : (c : Coordinating) → IsLed setup es c → IsStopped c → left_among (at es) (seats_of setup.layout) ≡ 0
     -- while no cycle is marked all is settled
     pub settled : (c : Coordinating) → IsLed setup es c → (leading.Marks c.stage → ⊥) → IsSettled es c
 

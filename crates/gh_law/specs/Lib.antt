@@ -6,5 +6,6 @@ pub mod Names
 pub mod Phases
 pub mod Room
 pub mod Scans
+pub mod Searches
 pub mod SweepMarks
 pub mod Vocabulary

@@ -30,6 +30,11 @@ pub record StandsEmpty (m : Processor) : Type 0 where
   pub no_span : m.poll.local.cache ≡ none_cached
   pub no_buffer : m.poll.local.held ≡ None
 
+-- From there until it has gone on a worker holds no buffer, and has no words left that it has scanned and not handed over.
+pub record WorkerStandsEmpty (w : Working) : Type 0 where
+  pub no_buffer : w.held ≡ None
+  pub none_left : w.scan_work ≡ 0
+
 -- A heap that is set up so.
 module _ (setup : Setup) where
   abbrev told : List (Entry Op) → Words
@@ -54,10 +59,10 @@ module _ (setup : Setup) where
       pub processors : (a : ℕ) (m : Processor) → at es a ≡ Actor.Runs m → IsAwake (stage_of m) → IsExact (last_phase es) (told es) (party_of m).view
       -- so does a worker, but once the last cycle is swept it may know still that marking is off
       pub workers : (a : ℕ) (w : Working) → at es a ≡ Actor.Marks w → IsAwake (working.stage_of w) → IsCurrent (last_phase es) (told es) (working.party_of w).view
-      -- who is not awake stands empty until it has gone on, and has given each answer that its operations have had
+      -- who is not awake stands empty until it has gone on; a processor has given each answer that its operations have had
       pub resuming : (a : ℕ) (m : Processor) (stops : ℕ) (stage : ResumeStage) → at es a ≡ Actor.Runs m → stage_of m ≡ Resumes stops stage → StandsEmpty m
       pub answered : (a : ℕ) (m : Processor) (stops : ℕ) (stage : ResumeStage) → at es a ≡ Actor.Runs m → stage_of m ≡ Resumes stops stage → answers_of (arena_of setup.shapes setup.layout) (opening_words setup.pacing.trigger) a es ≡ given_of (arena_of setup.shapes setup.layout) (opening_words setup.pacing.trigger) a es
-      pub workers_resuming : (a : ℕ) (w : Working) (stops : ℕ) (stage : ResumeStage) → at es a ≡ Actor.Marks w → working.stage_of w ≡ Resumes stops stage → w.held ≡ None
+      pub workers_resuming : (a : ℕ) (w : Working) (stops : ℕ) (stage : ResumeStage) → at es a ≡ Actor.Marks w → working.stage_of w ≡ Resumes stops stage → WorkerStandsEmpty w
 
     -- Who marks.
     pub record MarksInPhase (c : Coordinating) : Type 0 where

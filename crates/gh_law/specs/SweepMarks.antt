@@ -1,5 +1,5 @@
 -- What the numbers of spans say, and which marks and objects a sweep has left, in every legal list of steps of all actors: over the words.
-use Rattle.std.specs.Prelude.{◌≡◌, ◌≢◌, ℕ, ◌+◌, ◌*◌, ◌/◌, ◌<◌, ◌≤◌, ◌⊎◌, true, false, List, Option, Some}
+use Rattle.std.specs.Prelude.{◌≡◌, ◌≢◌, ◌↔◌, ℕ, ◌+◌, ◌*◌, ◌/◌, ◌<◌, ◌≤◌, ◌⊎◌, true, false, List, Option, Some}
 use Rattle.gh_law.specs.Vocabulary.{actors_after, arena_of, at_seat, Cell, Coordinating, Entry, Ever, ever_after_list, IsBeginning, IsLedBy, IsPlacedAt, Name, only_polls, Op, opening_words, Processor, Reach, Setup, Words, words_after}
 use Rattle.gh_base.specs.declared.pack.PageWord.TheVariants.{Head}
 use Rattle.gh_base.specs.declared.pack.SpanHead.{SpanHead}
@@ -14,6 +14,7 @@ use Rattle.gh_sweep.specs.Sound.{reached}
 use Rattle.gh_sweep.specs.Sweepers.{has_span}
 use Rattle.gh_coord.specs.Handshake as leading
 use Rattle.gh_mutator.specs.declared.task.Task.{Task}
+use Rattle.gh_mutator_heap.specs.Facts.{held_at}
 use Rattle.gh_poll.specs.Local.{cached_in}
 use Rattle.gh_holds.specs.Below.{sweep_of}
 
@@ -51,6 +52,10 @@ pub record IsOwnSpan (words : Words) (a p : ℕ) : Type 0 where
 abbrev pub CachedAreSwept : Words → (a : ℕ) → Processor → Type 0
 CachedAreSwept words a m = IsRunning m.task → (c : SpanClass) (k : CachedSpan) → c.class < 25 → cached_in m.poll.local.cache (Small c) ≡ Some k → IsOwnSpan words a k.head
 
+-- Whatever a processor is at, also in a poll, a wait or a leave, and once it has left: it holds what it has cached and has not given back yet, and the span of a large object that it makes. These are exactly the spans that are its own; so each is swept.
+abbrev pub HoldsItsOwn : Words → (a : ℕ) → Processor → Type 0
+HoldsItsOwn words a m = (p : ℕ) → (held_at m m.task p ≡ true) ↔ IsOwnSpan words a p
+
 -- Marks.
 
 -- the word of bits lies in the span that is being swept, and its alloc bits are not cut to the marks yet
@@ -79,6 +84,7 @@ module _ (setup : Setup) (es : List (Entry Op)) where
     pub numbers : SpansAreNumbered told
     pub owned : OwnedAreSwept told
     pub cached : (a : ℕ) → a < setup.layout.procs → CachedAreSwept told a (at_seat (arena_of setup.shapes setup.layout) (opening_words setup.pacing.trigger) es a)
+    pub held : (a : ℕ) → a < setup.layout.procs → HoldsItsOwn told a (at_seat (arena_of setup.shapes setup.layout) (opening_words setup.pacing.trigger) es a)
     -- a cycle begins and is marked once each span is swept
     pub marked : (c : Coordinating) → IsLedBy (arena_of setup.shapes setup.layout) setup.pacing setup.may es c → IsBeginning c.stage ⊎ leading.Marks c.stage → EachSpanIsSwept told
     pub marks : (c : Coordinating) → IsLedBy (arena_of setup.shapes setup.layout) setup.pacing setup.may es c → (leading.Marks c.stage → ⊥) → MarksAreLeft told (ever_after_list (arena_of setup.shapes setup.layout) (opening_words setup.pacing.trigger) es) (λ who. sweep_of (actors_after (arena_of setup.shapes setup.layout) setup.pacing setup.may es who))

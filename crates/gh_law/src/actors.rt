@@ -42,28 +42,31 @@
 //! Beside that every list keeps who scans a stack and how often (`specs/Scans.antt`), what the numbers of spans and the marks
 //! say while no cycle is marked (`specs/SweepMarks.antt`), which spans there are and who owns how many (`gh_holds`,
 //! `specs/Spans.antt`), what the heap's count of bytes is of (`gh_marked`, `specs/HeapBytes.antt`), who knows of a phase and
-//! who marks (`specs/Phases.antt`), who asked for a cycle (`specs/Asked.antt`) and how many there are (`gh_lists`,
-//! `specs/Counts.antt`).
+//! who marks (`specs/Phases.antt`), who asked for a cycle (`specs/Asked.antt`), how many there are (`gh_lists`,
+//! `specs/Counts.antt`), and that a search for a slot finds no room only when there is none (`specs/Searches.antt`).
 
 ghost use Rattle.gh_law.specs.Actors.{EveryListOfActorsStands};
 
-use gh_holds::every_list_holds;
+use gh_holds::{every_list_holds, ties_show_what_there_is};
 use gh_state::laws::slots_are_read;
 
 /// After every legal list of steps of all actors, in every order:
 ///
 /// * **The heap.** The words stand for the heap that never frees, and each processor was answered as that heap answers, save
-///   `full`, which stands only where there was no room. Each object that stands, reached or not, has one address, and no two
-///   share a word or an address. Each step that an actor may make next is on a word that there is.
+///   `full`, which stands only where there was no room. Whenever a search for a slot ends without room, the first of a `new` or
+///   the one after its wait, there is none in the words in which it frees the lock. Each object that stands, reached or not, has
+///   one address, and no two share a word or an address. Each step that an actor may make next is on a word that there is.
 /// * **Spans.** Each page is free, or one of a span for objects of one of the types. Who owns a span is a processor, and it owns no
-///   two of one span class.
+///   two of one span class. Whatever a processor is at, also in a poll, a wait or a leave, the spans that it owns are those that
+///   it has cached and not given back yet, and that of a large object which it makes; and each is swept.
 /// * **The heap's count** is the bytes of the slots of all objects that stand, less those of the objects whose alloc bit a `new` has
 ///   set and whose bytes it has not added yet, and with those of the objects that sweeps have cleared and not taken off yet.
 /// * **Cycles.** Who waits for a cycle goes on once one that began behind its first entry is swept. Each cycle was asked for
 ///   since the one before was opened, but the last; none is left out of the coordinator's list, as long as there is room; and
 ///   its numbers are how often the list stores each.
 /// * **While one is marked** what was placed where it began is placed there still. There is a state of marking of this heap, in
-///   which each actor has in hand what its stage says, and a picture of it that comes, by lists of moves of `gh_tri`'s picture
+///   which each actor has in hand what its stage says. It has each object that a script reaches, what registers name, and the
+///   marks: so it is no empty one. And there is a picture of it that comes, by lists of moves of `gh_tri`'s picture
 ///   and of changes of registers, one for each step since, of one as at a cycle's begin; so it has the invariants, and once the
 ///   coordinator has checked the end of marking it is done in the picture too. A stack is scanned once in a cycle at most,
 ///   and the words that workers scan are at most one for each global and twice the heap's. They count each global exactly once
@@ -76,12 +79,15 @@ use gh_state::laws::slots_are_read;
 ///   placed and not marked. So an object that becomes unreachable is placed nowhere once the second cycle whose marking ends
 ///   after that is swept. While a cycle is swept goroutines run, and any actor may sweep: each span is swept, or nobody owns
 ///   it, and what a script reaches is marked where its span is not swept. While none is marked, marks are left only there.
-/// * **Phases.** Who marks knows that a cycle is marked, and in a stopped world nobody but the coordinator moves. The world is
-///   stopped only where a cycle is opened, and where it is checked that its marking is over.
+/// * **Phases.** Who marks knows that a cycle is marked, and in a stopped world nobody but the coordinator moves. From the
+///   acknowledgement of a stop until it has gone on a processor has cached no span, no actor holds a buffer, and a worker has
+///   handed over all that it has scanned. The world is stopped only where a cycle is opened, and where it is checked that its
+///   marking is over.
 /// * **Once all is over** the objects that stand are those that the globals reach.
 pub fn every_list_of_actors_stands()
     ensures { EveryListOfActorsStands }
 {
     every_list_holds();
+    ties_show_what_there_is();
     slots_are_read();
 }

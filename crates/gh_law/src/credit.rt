@@ -19,8 +19,8 @@ use gh_worker::laws::{a_worker_writes_its_own, calm_workers_mark_nothing, credit
 
 /// After every legal list of steps of all actors, in every order, the credit that workers have earned is what was spent, what
 /// has lapsed, and what is in the bank; it is the words that they have scanned, but for those that they have still to hand
-/// over; and it is below 2^48. What was spent is what processors have drawn. While no cycle is marked nothing is in the bank
-/// or left, and the coordinator knows what has lapsed.
+/// over; and it is below 2^48. What was spent is what processors have drawn. In a stopped world nothing is left. While no cycle
+/// is marked nothing is in the bank or left, and the coordinator knows what has lapsed.
 pub fn every_list_balances()
     ensures { EveryListBalances }
 {

@@ -179,7 +179,7 @@ module _ (setup : Setup) (lists : ListsKnown setup) where
       workers = λ a w is. keeps.workers_know a w (works_below a w is) is;
       resuming = empty;
       answered = answered has;
-      workers_resuming = λ a w stops stage is y. (lists.known.workers_places.rests w stops stage (sound_at a (Actor.Marks w) (works_below a w is) is) y).calm.none;
+      workers_resuming = λ a w stops stage is y. let calm = (lists.known.workers_places.rests w stops stage (sound_at a (Actor.Marks w) (works_below a w is) is) y).calm in record { no_buffer = calm.none; none_left = calm.handed };
     }
 
     marks_in_phase : (c : Coordinating) → Led es c → MarksInPhase setup es c

@@ -1,6 +1,6 @@
 -- What every list says, by what holds after it: outside of marking by the coordinator's stage, and while a cycle is marked by what is known of the heap.
 use Rattle.std.proofs.Common.{◌≡◌, ℕ, sym, ap, ◌∙◌, List, arith}
-use Rattle.gh_law.proofs.Vocabulary.{AllStands, AllWereAsked, AllWereOpened, AnswersAsEver, Arena, arena, Awaits, Cell, Coordinating, CoordStage, Done, Entry, HasState, HeapIsCounted, HoldsAfter, HoldsAt, IsAsItShould, IsLed, IsTelling, ListsKnown, ListStands, named, Op, opening_words, PhasesStand, processor_at, ScansOnce, Setup, SpansStand, stand_apart, stands_for, StepsWithin, SweepsStand, Tell, TellStage, those, view, Words, words}
+use Rattle.gh_law.proofs.Vocabulary.{AllStands, AllWereAsked, AllWereOpened, AnswersAsEver, Arena, arena, Awaits, Cell, Coordinating, CoordStage, Done, Entry, HasState, HeapIsCounted, HoldsAfter, HoldsAt, IsAsItShould, IsLed, IsTelling, ListsKnown, ListStands, named, NoneMeansNoRoom, Op, opening_words, PhasesStand, processor_at, ScansOnce, Setup, SpansStand, stand_apart, stands_for, StepsWithin, SweepsStand, Tell, TellStage, those, TiesShowWhatThereIs, view, Words, words}
 use Rattle.gh_holds.specs.Objects.{CountsAreSaid, IsTold}
 use Rattle.gh_holds.specs.ActorsHold as hold
 use Rattle.gh_lists.specs.Counts.{CountsPlainly}
@@ -8,6 +8,7 @@ use Rattle.gh_law.proofs.AllActors.Pending.{none_unacted}
 
 -- What is shown of a list beside what holds after it.
 pub record Shown (setup : Setup) (es : List (Entry Op)) : Type 0 where
+  pub no_room : NoneMeansNoRoom setup es
   pub awaits : Awaits setup es
   pub within : StepsWithin setup es
   pub asked : AllWereAsked setup es
@@ -66,9 +67,10 @@ module _ (setup : Setup) (es : List (Entry Op)) (lists : ListsKnown setup) (now 
     said : CountsAreSaid setup es c
     said = grind (arith, cleared, live_said)
 
-  pub all_stands : (c : Coordinating) → IsLed setup es c → Shown setup es → AllStands setup es
-  all_stands c led shown = record {
+  pub all_stands : TiesShowWhatThereIs → (c : Coordinating) → IsLed setup es c → Shown setup es → AllStands setup es
+  all_stands ties c led shown = record {
     stands = stands c led;
+    no_room = shown.no_room;
     awaits = shown.awaits;
     within = shown.within;
     asked = shown.asked;
@@ -88,6 +90,7 @@ module _ (setup : Setup) (es : List (Entry Op)) (lists : ListsKnown setup) (now 
     spans = shown.spans;
     phases = shown.phases;
     drawn = now.drawn;
+    shows = λ d too on. let is = now.drawn d too on in ties setup es is.cycle is.shared is.tied.of_heap;
     said = said;
     counts = λ d too. (now.holds d too).counted;
     heap_bytes = shown.bytes;

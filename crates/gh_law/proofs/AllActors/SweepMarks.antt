@@ -1,6 +1,6 @@
 -- What the one state says of the numbers of spans, and of marks while no cycle is marked: of each word of bits it says whether a sweep has cut it and cleared its marks.
 use Rattle.std.proofs.Common.{◌≡◌, ◌⊎◌, inl, inr, ℕ, ◌+◌, ◌-◌, ◌*◌, ◌/◌, ◌<◌, ◌≤◌, ◌==◌, Bool, true, false, cond, ltb, refl, sym, ap, subst, ◌∙◌, arith, List, [], ◌∷◌, Option, Some, None, ◌%◌}
-use Rattle.gh_law.proofs.Vocabulary.{Actor, actors_after, alloc_words, Arena, arena, bit_at, bit_at-zero, CachedAreSwept, Cell, Check, Close, CloseStage, ClosingIsBusy, Coordinating, CoordStage, Count, CycleEnd, EachSpanIsSwept, Entry, ever, Far, generation_at, goes_then, HasState, Head, HoldsAt, InSpan, IsBeginning, IsClosing, IsInLimits, IsInSweep, IsLed, IsMarking, IsNumbered, IsRunning, IsTelling, IsUncut, IsUnderWay, Known, KnowsAt, Legal, mark_words, MarkOn, marks_at, marks_in, MarksAreLeft, Name, nat_tests, once, Op, Open, other, OwnedAreSwept, owner_in, page_of, page_words, PageWord, Polling, processor_at, Reach, Rests, Row, row_bit, SaysFar, SaysHowFar, seats_of, seen_by_sweep, Setup, SpanHead, SpansAreNumbered, State, StopAgain, Sweep, sweep_of, sweep_over, Sweeping, SweepsStand, SweepStage, Task, Tell, TellStage, those, Told, Unswept, View, view, Watch, Words, words}
+use Rattle.gh_law.proofs.Vocabulary.{Actor, actors_after, alloc_words, Arena, arena, bit_at, bit_at-zero, CachedAreSwept, Cell, Check, Close, CloseStage, ClosingIsBusy, Coordinating, CoordStage, Count, CycleEnd, EachSpanIsSwept, Entry, ever, Far, generation_at, goes_then, HasState, Head, HoldsAt, HoldsItsOwn, InSpan, IsBeginning, IsClosing, IsInLimits, IsInSweep, IsLed, IsMarking, IsNumbered, IsOwnSpan, IsRunning, IsTelling, IsUncut, IsUnderWay, Known, KnowsAt, Legal, mark_words, MarkOn, marks_at, marks_in, MarksAreLeft, Name, nat_tests, once, Op, Open, other, OwnedAreSwept, owner_in, page_of, page_words, PageWord, Polling, processor_at, Reach, Rests, Row, row_bit, SaysFar, SaysHowFar, seats_of, seen_by_sweep, Setup, SpanHead, SpansAreNumbered, State, StopAgain, Sweep, sweep_of, sweep_over, Sweeping, SweepsStand, SweepStage, Task, Tell, TellStage, those, Told, Unswept, View, view, Watch, Words, words}
 use Rattle.gh_sweep.specs.Listing.{bit_words}
 use Rattle.gh_sweep.specs.Moves.{Sweeps}
 use Rattle.gh_sweep.specs.Shared.{Done}
@@ -96,6 +96,26 @@ module _ (setup : Setup) (es : List (Entry Op)) (has : HasState setup es) where
         let held = (rests.knows.caches c k few is).span in
         let owner : held.h.owner ≡ a + 1 = ap owner_in (sym held.head) ∙ (has.good.heap.owners a k.head).1 held.held in
         record { h = held.h; head = held.head; owner = owner; swept = owned_now k.head held.h held.head (λ none. let no : 0 ≡ a + 1 = sym none ∙ owner in absurd (omega (arith, no))) }
+
+  -- who is said to own a page owns a span that begins there
+  own_span : (a p : ℕ) → owner_in (page_of (now (Cell.Page p))) ≡ a + 1 → IsOwnSpan now a p
+  own_span a p owner = go (page_of (now (Cell.Page p))) refl where
+    some : (n : ℕ) → n ≡ a + 1 → n ≡ 0 → ⊥
+    some n is none = omega (arith, is, none)
+
+    go : (w : PageWord) → page_of (now (Cell.Page p)) ≡ w → IsOwnSpan now a p
+    go (Head h) is = let mine : h.owner ≡ a + 1 = sym (ap owner_in is) ∙ owner in record { h = h; head = is; owner = mine; swept = owned_now p h is (some h.owner mine) }
+    go PageWord.Free is = absurd (some 0 (sym (ap owner_in is) ∙ owner) refl)
+    go (PageWord.Body b) is = absurd (some 0 (sym (ap owner_in is) ∙ owner) refl)
+
+  -- what a processor holds, whatever it is at
+  pub holds_its_own : (a : ℕ) → a < setup.layout.procs → HoldsItsOwn (words setup es) a (processor_at setup es a)
+  holds_its_own a lt = subst (λ (w : Words). HoldsItsOwn w a (processor_at setup es a)) told_are go where
+    go : HoldsItsOwn now a (processor_at setup es a)
+    go p =
+        let right = (has.of_list.processors a lt).fine.right in
+        let owners = has.good.heap.owners a p in
+        (λ held. own_span a p (owners.1 (right.holds p ∙ held)), λ own. sym (right.holds p) ∙ owners.0 (ap owner_in own.head ∙ own.owner))
 
   -- While the marks are a sweep's.
   module _ (over : s.told ≡ None) where
@@ -249,6 +269,7 @@ module _ (setup : Setup) (limits : IsInLimits setup.layout) (known : Known) (es 
       numbers = spans_numbered setup es has;
       owned = owned_swept setup es has;
       cached = cached_swept setup es has;
+      held = holds_its_own setup es has;
       marked = λ d too. subst (λ (x : Coordinating). IsBeginning x.stage ⊎ leading.Marks x.stage → EachSpanIsSwept (words setup es)) (one_lead d too) (swept_at c.stage marking h);
       marks = λ d too. subst (λ (x : Coordinating). (leading.Marks x.stage → ⊥) → Left) (one_lead d too) (λ off. left_at legal c.stage going off h);
     }

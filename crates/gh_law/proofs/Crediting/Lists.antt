@@ -7,7 +7,9 @@ use Rattle.gh_mutator_writes.specs.Spending.{ProcessorsSpend}
 use Rattle.gh_mutator.specs.Spending.{spent_of}
 use Rattle.gh_phase.specs.declared.view.View.{View}
 use Rattle.gh_sweep.specs.Listing as sweep
+use Rattle.gh_phase.specs.ResumePlaces as resuming
 use Rattle.gh_worker.specs.Earning.{WorkersEarn}
+use Rattle.gh_worker.specs.Handshake as working
 use Rattle.gh_worker.specs.Listing as worker
 use Rattle.gh_worker.specs.Works.{words_done}
 use Rattle.gh_lists.specs.Waits.{WorkersRest}
@@ -442,6 +444,23 @@ module _ (setup : Setup) (cited : Cited setup) where
         let k = off_marks c.stage off (lapsed_in es) (bank es) c.lapsed b.knows in
         record { none_left = total_none (λ a. left_at (who es a)) (seats_of setup.layout) (λ a lt. none_at a); empty = k.0; lapsed = k.1 }
 
+  -- in a stopped world each worker waits at the stop
+  module _ (es : List (Entry Op)) (legal : Legal (those setup) es) (c : Coordinating) (led : who es n ≡ Actor.Leads c) (stop : IsStopped c) where
+    abbrev phases : PhasesStand setup es
+    phases = cited.phases es legal
+
+    worker_left : (a : ℕ) (w : Working) → who es a ≡ Actor.Marks w → w.scan_work ≡ 0
+    worker_left a w is =
+        let waits = (phases.stopped c led stop).workers a w is in
+        (phases.known.workers_resuming a w _ _ is (ap working.stands_at waits.is_at ∙ ap (resuming.stands_at waits.routine.stops) waits.loads)).none_left
+
+    left_none : (a : ℕ) (x : Actor) → who es a ≡ x → left_at x ≡ 0
+    left_none a (Actor.Marks w) is = worker_left a w is
+    left_none a _ is = refl
+
+    none_stopped : left_among (who es) (seats_of setup.layout) ≡ 0
+    none_stopped = total_none (λ a. left_at (who es a)) (seats_of setup.layout) (λ a lt. left_none a (who es a) refl)
+
   pub stands : (es : List (Entry Op)) → Legal (those setup) es → CreditStands setup es
   stands es legal =
       let led = seats.led_by setup es in
@@ -451,5 +470,6 @@ module _ (setup : Setup) (cited : Cited setup) where
         scanned = b.scanned;
         few = cited.few es legal;
         drawn = b.drawn;
+        stopped = λ c is stop. none_stopped es legal c is stop;
         settled = λ c is off. settled es legal c is off;
       }

@@ -1,6 +1,6 @@
 -- The next step of a processor is on a word that there is, by its rights.
 use Rattle.std.proofs.Common.{◌≡◌, ℕ, false, refl, sym, ap, subst, ◌∙◌, inr, List, Option, Some, None, ◌<◌}
-use Rattle.gh_law.proofs.Vocabulary.{Actor, actors, Arena, arena, asks, Begins, by, cell_of, Entry, Given, Good, HasState, Heap, InRange, is_busy_at, IsAsItShould, Kind, Known, made_by, MayBegin, Op, Processor, processor_at, processor_kind, ProcessorFacts, runs_are, setup_for, ShapesAreGood, started, state_of, those, view}
+use Rattle.gh_law.proofs.Vocabulary.{Actor, actors, Answer, Arena, arena, asks, Begins, by, cell_of, Entry, Given, Good, HasState, Heap, InRange, is_busy_at, IsAsItShould, Kind, Known, made_by, MayBegin, Op, Processor, processor_at, processor_kind, ProcessorFacts, runs_are, setup_for, ShapesAreGood, started, state_of, those, view}
 use Rattle.gh_lists.specs.Handshake.{is_busy}
 use Rattle.gh_lists.specs.Beginning.{may_parts}
 use Rattle.gh_holds.specs.Below.{may-begin, state_by}
@@ -45,11 +45,15 @@ module _ (given : Given) (good : ShapesAreGood given.shapes) (known : Known) whe
           may-begin z a (view h) own (by a es) (λ g its y. is.ended g its (inr y)) (λ g its. ap (λ (n : Processor). made_by n g) (state_by k a es) ∙ is.fine.counts.each g its) p
           (may_parts z given.counts a own (by a es) p (begins_now p some).1).runs
 
-      pub by_rights : IsWithin o
-      by_rights = go o refl where
-        go : (q : Option Op) → o ≡ q → IsWithin q
-        go None none = known.runs.within z a (view h) m is.pending gh is.fine
+      -- once the operation is begun all is known that is known of a processor
+      pub begun_fine : (pending : Option Answer) × ProcessorFacts z a (view h) (started k o m) pending
+      begun_fine = go o refl where
+        go : (q : Option Op) → o ≡ q → (pending : Option Answer) × ProcessorFacts z a (view h) (started k q m) pending
+        go None none = (is.pending, is.fine)
         go (Some p) some =
             let at_rest = idle p some in
             let fine = subst (ProcessorFacts z a (view h) m) (known.runs.rests z a (view h) m is.pending at_rest is.fine) is.fine in
-            known.runs.within z a (view h) (k.begins m p) None gh (known.runs.begins z a (view h) m p good gh fine at_rest (λ going. begins_well p some))
+            (None, known.runs.begins z a (view h) m p good gh fine at_rest (λ going. begins_well p some))
+
+      pub by_rights : IsWithin o
+      by_rights = known.runs.within z a (view h) (started k o m) begun_fine.0 gh begun_fine.1
