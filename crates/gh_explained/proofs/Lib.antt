@@ -3,3 +3,4 @@ pub mod Explained
 pub mod Along
 pub mod GoingOn
 pub mod Vocabulary
+pub mod Stores

@@ -1,5 +1,7 @@
 //! Laws of a script's runs, whatever the code does.
 
+ghost use Rattle.gh_explained.specs.Lists.{EveryListOfAScriptBalances, EveryListOfAScriptHasRoom, EveryListOfAScriptSettles};
+ghost use Rattle.gh_explained.specs.Stores.{EveryLoadSeesStores};
 ghost use Rattle.gh_world.specs.Points.{StatementsAreEnough};
 ghost use Rattle.gh_world.specs.Runs.{EveryListOfAScriptStands, EveryOrderHasOneRun, EveryRunIsExplained, EveryRunIsOne, EveryRunStands, NoneIsLonger, RunsEndWhole, RunsGoOn};
 
@@ -7,7 +9,7 @@ use gh_base::Op;
 use gh_base::laws::a_state_is_of_its_own_entries;
 use gh_class::size_class_laws;
 use gh_coord::laws::it_goes_on_until_done;
-use gh_law::{every_list_balances, every_list_of_actors_stands};
+use gh_law::{every_list_balances, every_list_has_room, every_list_of_actors_stands};
 use gh_lists::{
     a_processor_writes_its_own, cycles_are_few, every_list_keeps_the_handshake,
     every_step_changes_numbers, processors_begin_few,
@@ -26,6 +28,31 @@ pub fn every_run_stands()
     ensures lists { EveryListOfAScriptStands }
 {
     every_list_of_actors_stands();
+}
+
+/// After every legal list of a script's processors, workers and coordinator, in whatever order the processors' operations are:
+/// credit balances, and there is a grey work buffer with room that nobody holds. Where the coordinator is done, all that workers
+/// scanned was earned, and all that was earned was spent or has lapsed.
+pub fn every_list_of_a_script_balances()
+    ensures balances { EveryListOfAScriptBalances }
+    ensures room { EveryListOfAScriptHasRoom }
+    ensures settled { EveryListOfAScriptSettles }
+{
+    every_run_stands();
+    cycles_have_room();
+    each_operation_acts_once();
+    only_points_change();
+    a_processor_writes_its_own();
+    a_worker_writes_its_own();
+    every_list_keeps_the_handshake();
+    cycles_are_few();
+    every_step_changes_numbers();
+    every_list_balances();
+    every_list_has_room();
+    processors_begin_few();
+    set_bits_are_counted();
+    slots_are_read();
+    size_class_laws();
 }
 
 /// Whatever the number of processors, each one's operations in a whole run of a script are its turns, and each
@@ -82,3 +109,10 @@ pub fn statements_are_enough()
     only_points_change();
     each_operation_acts_once();
 }
+
+/// Of every list of the steps of a heap's actors: a load is answered, in the heap that never frees, the value that was stored last in
+/// that field of that object. No other goroutine has stored there meanwhile where at each moment between none had a register that names
+/// the object.
+pub fn loads_see_stores()
+    ensures { EveryLoadSeesStores }
+{}

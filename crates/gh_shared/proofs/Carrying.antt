@@ -1,7 +1,13 @@
 -- What a handle keeps of the actors that its seat carries: how many there are, and the coordinator's machine.
-use Rattle.std.proofs.Common.{◌≡◌, ◌≢◌, ◌↔◌, ℕ, zero, suc, ◌+◌, ◌%◌, ◌^◌, ◌<◌, ◌≤◌, ◌==◌, Bool, true, false, ◌||◌, nat_lt, if◌then◌else◌, cond, List, [], ◌∷◌, ◌++◌, arith, refl, sym, ap, ◌∙◌, subst, Option, Some, None, ne_eqb, true≢false}
+use Rattle.std.proofs.Common.{◌≡◌, ◌≢◌, ◌↔◌, ℕ, zero, suc, ◌+◌, ◌*◌, ◌%◌, ◌^◌, ◌<◌, ◌≤◌, ◌==◌, Bool, true, false, ◌||◌, nat_lt, if◌then◌else◌, cond, List, [], ◌∷◌, ◌++◌, length, map, arith, refl, sym, ap, ◌∙◌, subst, Option, Some, None, ne_eqb, true≢false}
 use Rattle.std.proofs.lemmas.Bool.{eqb-true, lt-ltb}
-use Rattle.gh_shared.proofs.Vocabulary.{acks_of, Actor, actor_in, as_actor, asks, begins, by, Carries, CarriesSo, Coordinating, count_among, credit_drawn, drawn_beside, entries_made, Entry, first_of, goes, has, HeapActor, is_coordinator, IsAfterOneList, IsClosedAfter, IsCoordinator, Layout, leader_of, Leads, machine_actor, machine_after, Marks, Me, nat_tests, one_carried, Op, opening, Planned, Ran, Runs, seats_of, setting, spent_at, state_of, total, View}
+use Rattle.std.proofs.lemmas.List.{length-map}
+use Rattle.gh_shared.proofs.Vocabulary.{acks_of, Actor, actor_in, as_actor, asks, begins, by, Carries, CarriesSo, Coordinating, count_among, credit_drawn, drawn_beside, entries_made, Entry, first_of, goes, has, HeapActor, is_coordinator, IsAfterOneList, IsClosedAfter, IsCoordinator, Layout, LaysOut, leader_of, Leads, Legal, machine_actor, machine_after, Marks, Me, nat_tests, one_carried, Op, opening, Planned, Ran, Runs, seats_of, setting, setup_of, spent_among, spent_at, state_of, total, View, WellFormed}
+use Rattle.gh_coord.specs.Listing.{is_done_at, lapsed_at}
+use Rattle.gh_coord.specs.declared.coord.CoordStage.{CoordStage}
+use Rattle.gh_explained.specs.Lists.{EveryListOfAScriptSettles, scanned_in}
+use Rattle.gh_world.specs.Runs.{swept_cycle}
+use Rattle.gh_shared.specs.Credit.{CreditIsSettled, earned_by}
 use Rattle.gh_shared.proofs.Drawing.{both_words, drawn_all, drawn_both, drawn_on, Joined, none_drawn, one_word, same_state}
 use Rattle.gh_shared.proofs.Ready.{OfItsOwn}
 
@@ -184,6 +190,23 @@ carries_so p a x v lt view is state =
 
 -- ---- the close
 
+-- where the coordinator is done
+settled_so : (p : Planned) (es : List (Entry Op)) (c : Coordinating) (drawn : ℕ) → EveryListOfAScriptSettles → WellFormed p.script → LaysOut p.script p.layout → Legal (setting p) es → Actor.Leads c ≡ state_of (setting p).kind (acks_of p.layout) es → drawn ≡ spent_among (λ b. state_of (setting p).kind b es) (seats_of p.layout) % 2 ^ 64 → is_done_at c.stage ≡ true → CreditIsSettled p es c drawn
+settled_so p es c drawn settles formed lays legal leads spent done =
+    let told = settles p.script p.layout es c formed lays legal (sym leads) done in
+    let lapses : lapsed_at c.lapsed c.stage ≡ c.lapsed = lapsed_then c.lapsed c.stage done in
+    let balanced = told.balanced in
+    let scanned = told.scanned in
+    let globals = told.globals in
+    let few = told.few in
+    let many : length (map swept_cycle c.cycles.items) * p.layout.globals ≡ length c.cycles.items * p.layout.globals = ap (λ (n : ℕ). n * p.layout.globals) (length-map c.cycles.items swept_cycle) in
+    let whole : earned_by drawn c ≡ drawn + lapsed_at c.lapsed c.stage = omega (arith, lapses, balanced, few, spent) in
+    let all : earned_by drawn c ≡ scanned_in (setup_of p.script p.layout) es = omega (arith, whole, lapses, balanced, scanned, spent) in
+    record { scanned = all; globals = omega (arith, all, scanned, globals, many); balanced = whole; few = omega (arith, all, scanned, few) }
+  where
+    lapsed_then : (lapsed : ℕ) (stage : CoordStage) → is_done_at stage ≡ true → lapsed_at lapsed stage ≡ lapsed
+    lapsed_then lapsed stage e = grind arith
+
 -- where all are carried
 module _ (law : OfItsOwn) (p : Planned) (v : View Planned Op) (a : ℕ) (x : HeapActor) (carried drawn : ℕ) (led : Option Coordinating) (plan : v.plan ≡ p) (kept : CarriesSo v.plan v.actors v.log a x carried drawn led) (all : count_among v.actors (seats_of v.plan.layout) ≡ seats_of p.layout) where
   it_is_carried : (b : ℕ) → b < seats_of p.layout → Carries v b
@@ -201,17 +224,20 @@ module _ (law : OfItsOwn) (p : Planned) (v : View Planned Op) (a : ℕ) (x : Hea
   pub led_none : leader_of x led ≡ None → ⊥
   led_none e = let never : None ≡ Some led_so.0 = sym e ∙ led_so.1 in absurd cc
 
-  pub closed_so : (c : Coordinating) (ws : List ℕ) → leader_of x led ≡ Some c → machine_actor x ≡ actor_in setting v a → IsAfterOneList setting p v ws → IsClosedAfter p v c ((drawn + credit_drawn x) % 2 ^ 64) ws
-  closed_so c ws e state after =
+  pub closed_so : EveryListOfAScriptSettles → (c : Coordinating) (ws : List ℕ) → leader_of x led ≡ Some c → machine_actor x ≡ actor_in setting v a → IsAfterOneList setting p v ws → IsClosedAfter p v c ((drawn + credit_drawn x) % 2 ^ 64) ws
+  closed_so settles c ws e state after =
       let sum = total (drawn_beside p a v.actors v.log) (seats_of p.layout) in
       let own : machine_actor x ≡ state_of (setting p).kind a v.log = subst (λ (q : Planned). machine_actor x ≡ state_of (setting q).kind a v.log) plan state in
       let same : c ≡ led_so.0 = (let is : Some c ≡ Some led_so.0 = sym e ∙ led_so.1 in cc) in
+      let leads : Actor.Leads c ≡ state_of (setting p).kind (acks_of p.layout) after.list = ap (λ (d : Coordinating). Actor.Leads d) same ∙ led_so.2 ∙ same_state law (setting p).kind (acks_of p.layout) v.log after.list (sym (after.entries (acks_of p.layout) last_is_carried)) in
+      let spent : (drawn + credit_drawn x) % 2 ^ 64 ≡ spent_among (λ b. state_of (setting p).kind b after.list) (seats_of p.layout) % 2 ^ 64 = one_word drawn (credit_drawn x) sum its_own.summed ∙ ap (λ (s : Actor). (sum + spent_at s) % 2 ^ 64) own ∙ ap (λ (k : ℕ). k % 2 ^ 64) (sym (drawn_all p law a v.actors v.log after.list its_own.known it_is_carried (λ b lt. after.entries b (it_is_carried b lt)))) in
       record {
         list = after.list;
         legal = after.legal;
         words = after.words;
         entries = λ b lt. after.entries b (it_is_carried b lt);
         seen = after.seen (acks_of p.layout) last_is_carried;
-        coordinator = ap (λ (d : Coordinating). Actor.Leads d) same ∙ led_so.2 ∙ same_state law (setting p).kind (acks_of p.layout) v.log after.list (sym (after.entries (acks_of p.layout) last_is_carried));
-        spent = one_word drawn (credit_drawn x) sum its_own.summed ∙ ap (λ (s : Actor). (sum + spent_at s) % 2 ^ 64) own ∙ ap (λ (k : ℕ). k % 2 ^ 64) (sym (drawn_all p law a v.actors v.log after.list its_own.known it_is_carried (λ b lt. after.entries b (it_is_carried b lt))));
+        coordinator = leads;
+        spent = spent;
+        settled = λ formed lays. settled_so p after.list c ((drawn + credit_drawn x) % 2 ^ 64) settles formed lays after.legal leads spent;
       }

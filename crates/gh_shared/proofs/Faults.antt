@@ -60,7 +60,7 @@ all_loads l a b m (n ∷ ns) found same loads =
 
 -- ---- the processor
 
-answered_is : (x : Option Answer) (given : Answer) → ends_with_answer x ≡ Some (Some given) → x ≡ Some given
+pub answered_is : (x : Option Answer) (given : Answer) → ends_with_answer x ≡ Some (Some given) → x ≡ Some given
 answered_is x given e = grind arith
 
 idle_is : (t : Task) → is_busy_at t ≡ false → is_leaving t ≡ false → t ≡ Idle

@@ -1,4 +1,5 @@
 pub mod Allowed
+pub mod Answering
 pub mod Carrying
 pub mod Drawing
 pub mod Ending

@@ -40,7 +40,7 @@ pub use Rattle.gh_shared.specs.AtOnce.{RanAtOnce}
 pub use Rattle.gh_shared.specs.Calls.{Fits, IsClosedAfter, Operated, RunsIt, ShowsAfter}
 pub use Rattle.gh_shared.specs.Handles.{ended_at, ended_of, IsFresh, layout_of, machine_of, number_of, own_of, plan_of, room_at, runs_in, view_of}
 pub use Rattle.gh_shared.specs.Shown.{as_actor, asks_for_cycle, CarriesSo, CoordinatorGoesOn, count_among, CountsSo, credit_drawn, drawn_beside, first_of, IsKeptByHandle, leader_of, left_by, ProcessorRests, requests_begun, RestsIfProcessor, runs_by}
-pub use Rattle.gh_shared.specs.Vocabulary.{acks_of, Actor, Answer, arena_of, asked_by, asks, asks_collector, BeganAsEach, begins, by, Carries, Coordinating, ended_in, ends, Entry, Gave, given_of, gives, goes, goroutine_of, has, has_left, HasShapes, HeapActor, is_busy, is_coordinator, is_load, IsProcessor, Layout, LaysOut, Leads, leaves, Legal, machine_actor, Marks, one_carried, Op, opening, Planned, Ran, Runs, same_cell, SawLegalList, seats_of, setting, spent_at, state_of, View, words_after}
+pub use Rattle.gh_shared.specs.Vocabulary.{acks_of, Actor, Answer, arena_of, asked_by, asks, asks_collector, BeganAsEach, begins, by, Carries, Coordinating, ended_in, ends, Entry, Gave, given_of, gives, goes, goroutine_of, has, has_left, HasShapes, HeapActor, is_busy, is_coordinator, is_load, IsProcessor, Layout, LaysOut, Leads, leaves, Legal, machine_actor, Marks, one_carried, Op, opening, Planned, Ran, Runs, same_cell, SawLegalList, seats_of, setting, setup_of, spent_among, spent_at, state_of, View, words_after}
 pub use Rattle.gh_shared.specs.declared.handle.Handle.{Handle}
 pub use Rattle.gh_table.specs.Rule.{actor_in, IsAfterOneList, MayAsk, Tells}
 pub use Rattle.gh_table.specs.Runs.{begun_next, entries_made, machine_after}

@@ -1,11 +1,15 @@
 -- What the calls of a heap ask for, and what they do.
 use Rattle.std.specs.Prelude.{◌≡◌, ℕ, ◌+◌, ◌-◌, ◌%◌, ◌^◌, ◌<◌, ◌≤◌, true, false, not, ◌&&◌, if◌then◌else◌, List, length, Option, Some, None, ◌||◌, ◌++◌}
-use Rattle.gh_shared.specs.Vocabulary.{acks_of, Actor, Answer, answers_of, AnswersAsEver, arena_of, asks, asks_collector, at_seat, BeganAsEach, begins, by, Carries, Coordinating, ends, Entry, Gave, given_of, gives, goes, goroutine_of, has, HeapActor, IsProcessor, leaves, Legal, Op, Planned, Ran, SawLegalList, seats_of, setting, setup_of, ShowsCells, spent_among, state_of, View, words_after}
+use Rattle.gh_shared.specs.Vocabulary.{acks_of, Actor, Answer, answers_of, AnswersAsEver, arena_of, asks, asks_collector, at_seat, BeganAsEach, begins, by, Carries, Coordinating, ends, Entry, Gave, given_of, gives, goes, goroutine_of, has, HeapActor, IsProcessor, LaysOut, leaves, Legal, Op, Planned, Ran, SawLegalList, seats_of, setting, setup_of, ShowsCells, spent_among, state_of, View, words_after}
 use Rattle.gh_base.specs.declared.limits.TheConstants.{REGISTERS}
+use Rattle.gh_coord.specs.Listing.{is_done_at}
+use Rattle.gh_explained.specs.Lists.{CreditStands, RoomStands}
+use Rattle.gh_script.specs.Program.{WellFormed}
 use Rattle.gh_world.specs.Below.{AllStands}
 use Rattle.gh_mutator.specs.Listing.{is_busy_at}
 use Rattle.gh_shared.specs.declared.handle.Handle.{Handle}
 use Rattle.gh_shared.specs.declared.heap.Heap.{Heap}
+use Rattle.gh_shared.specs.Credit.{CreditIsSettled}
 use Rattle.gh_shared.specs.Handles.{carries_of, ended_of, IsHandleOf, layout_of, left_of, machine_of, number_of, own_of, room_at, runs_in, view_of}
 use Rattle.gh_shared.specs.Shown.{left_by, runs_by}
 
@@ -79,6 +83,14 @@ pub record WasAnswered (p : Planned) (a : ℕ) (es : List (Entry Op)) : Type 0 w
 abbrev pub AnswersAreEvers : Planned → Type 0
 AnswersAreEvers p = (es : List (Entry Op)) (a : ℕ) → Legal (setting p) es → a < p.layout.procs → WasAnswered p a es
 
+-- and credit balances: what workers have earned was spent, has lapsed, or is in the bank
+abbrev pub EveryListBalances : Planned → Type 0
+EveryListBalances p = (es : List (Entry Op)) → Legal (setting p) es → CreditStands (setup_of p.script p.layout) es
+
+-- and there is a grey work buffer that nobody holds and into which two entries more go
+abbrev pub EveryListHasRoom : Planned → Type 0
+EveryListHasRoom p = (es : List (Entry Op)) → Legal (setting p) es → RoomStands p.layout (words_after (setting p).opening es)
+
 -- ---- other actors
 
 -- The actor has made these steps and no others, and is done by them
@@ -101,7 +113,7 @@ pub record Gathered (h other h' : Handle) : Type 0 where
 
 -- ---- the close
 
--- The words are those after one legal list, which has of each actor exactly the entries of the handle, and began as all that the handle has seen; this is the coordinator after its entries in that list, and so much all processors have drawn by theirs
+-- The words are those after one legal list, which has of each actor exactly the entries of the handle, and began as all that the handle has seen; this is the coordinator after its entries in that list, and so much all processors have drawn by theirs; and where the coordinator is done all credit of the list is settled
 pub record IsClosedAfter (p : Planned) (v : View Planned Op) (c : Coordinating) (drawn : ℕ) (ws : List ℕ) : Type 0 where
   pub list : List (Entry Op)
   pub legal : Legal (setting p) list
@@ -110,3 +122,4 @@ pub record IsClosedAfter (p : Planned) (v : View Planned Op) (c : Coordinating) 
   pub seen : BeganAsEach v.seen list
   pub coordinator : Actor.Leads c ≡ state_of (setting p).kind (acks_of p.layout) list
   pub spent : drawn ≡ spent_among (λ a. state_of (setting p).kind a list) (seats_of p.layout) % 2 ^ 64
+  pub settled : WellFormed p.script → LaysOut p.script p.layout → is_done_at c.stage ≡ true → CreditIsSettled p list c drawn

@@ -1,5 +1,7 @@
+pub mod Answers
 pub mod AtOnce
 pub mod Calls
+pub mod Credit
 pub mod Faults
 pub mod Handles
 pub mod LastWrites

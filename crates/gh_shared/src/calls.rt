@@ -2,12 +2,17 @@
 //!
 //! A call begins one operation and runs it to its end. What it asks of its caller can be read off the handle; what it has done
 //! is said by the entries that its actor has then.
+//!
+//! A store asks for room for two entries, and a poll makes it. Each call but a poll, a new object and a collection says what it leaves
+//! of the room: a store at most two entries less, and the others as much as there was.
 
-ghost use Rattle.std.specs.Prelude.{◌≡◌, ◌<◌, ◌≤◌, ℕ, List, length, true, false};
+ghost use Rattle.std.specs.Prelude.{◌≡◌, ◌+◌, ◌<◌, ◌≤◌, ℕ, List, length, true, false};
 ghost use Rattle.gh_base.specs.declared.limits.TheConstants.{REGISTERS};
 ghost use Rattle.gh_base.specs.declared.operation.Op.TheVariants as ops;
 ghost use Rattle.gh_base.specs.declared.value.Answer.{Answer};
+ghost use Rattle.gh_base.specs.declared.value.Answer.TheVariants.{Done, Swept};
 ghost use Rattle.gh_base.specs.Routines.{EndsWithin};
+ghost use Rattle.gh_shared.specs.Answers.{IsDoneOrFault, IsDoneOrKind, IsNameOrFull, IsNilOrName, IsValueOrNoField};
 ghost use Rattle.gh_shared.specs.Calls.{IsGoing, May, Operated, OperatedWithin};
 ghost use Rattle.gh_shared.specs.Faults.{FaultLeavesAll};
 ghost use Rattle.gh_shared.specs.Handles.{left_of, plan_of, room_of, runs_in};
@@ -33,6 +38,8 @@ impl Heap {
         requires registers { (d < REGISTERS) × (b < REGISTERS) }
         ensures did { OperatedWithin self.now (ops.Load g d b k) 4 h.old h.new result }
         ensures fault { FaultLeavesAll h.old h.new result }
+        ensures room { room_of h.new ≡ room_of h.old }
+        ensures answer { IsValueOrNoField result }
     {
         faults_change_nothing();
         a_state_is_of_its_own_entries::<AnyActor, Op>();
@@ -51,6 +58,8 @@ impl Heap {
         requires room { 2 ≤ room_of h.old }
         ensures did { OperatedWithin self.now (ops.Store g b k v) 10 h.old h.new result }
         ensures fault { FaultLeavesAll h.old h.new result }
+        ensures room { room_of h.old ≤ room_of h.new + 2 }
+        ensures answer { IsDoneOrFault result }
     {
         faults_change_nothing();
         operations_end();
@@ -63,7 +72,9 @@ impl Heap {
         requires runs { runs_in h.old g ≡ true }
         requires registers { d < REGISTERS }
         requires global { k < (plan_of self.now).layout.globals }
-        ensures { OperatedWithin self.now (ops.GetGlobal g d k) 2 h.old h.new result }
+        ensures did { OperatedWithin self.now (ops.GetGlobal g d k) 2 h.old h.new result }
+        ensures room { room_of h.new ≡ room_of h.old }
+        ensures answer { IsNilOrName result }
     {
         operations_end();
         self.operate(h, Op::GetGlobal { g, d, k }, 2)
@@ -80,6 +91,8 @@ impl Heap {
         requires room { 2 ≤ room_of h.old }
         ensures did { OperatedWithin self.now (ops.SetGlobal g k v) 8 h.old h.new result }
         ensures fault { FaultLeavesAll h.old h.new result }
+        ensures room { room_of h.old ≤ room_of h.new + 2 }
+        ensures answer { IsDoneOrKind result }
     {
         faults_change_nothing();
         operations_end();
@@ -91,7 +104,9 @@ impl Heap {
         requires going { IsGoing self.now h.old }
         requires runs { runs_in h.old g ≡ true }
         requires registers { (d < REGISTERS) × (s < REGISTERS) }
-        ensures { OperatedWithin self.now (ops.Move g d s) 1 h.old h.new result }
+        ensures did { OperatedWithin self.now (ops.Move g d s) 1 h.old h.new result }
+        ensures room { room_of h.new ≡ room_of h.old }
+        ensures answer { result ≡ Done }
     {
         operations_end();
         self.operate(h, Op::Move { g, d, s }, 1)
@@ -102,7 +117,9 @@ impl Heap {
         requires going { IsGoing self.now h.old }
         requires runs { runs_in h.old g ≡ true }
         requires registers { d < REGISTERS }
-        ensures { OperatedWithin self.now (ops.Int g d n) 1 h.old h.new result }
+        ensures did { OperatedWithin self.now (ops.Int g d n) 1 h.old h.new result }
+        ensures room { room_of h.new ≡ room_of h.old }
+        ensures answer { result ≡ Done }
     {
         operations_end();
         self.operate(h, Op::Int { g, d, n }, 1)
@@ -113,7 +130,9 @@ impl Heap {
         requires going { IsGoing self.now h.old }
         requires runs { runs_in h.old g ≡ true }
         requires registers { d < REGISTERS }
-        ensures { OperatedWithin self.now (ops.Nil g d) 1 h.old h.new result }
+        ensures did { OperatedWithin self.now (ops.Nil g d) 1 h.old h.new result }
+        ensures room { room_of h.new ≡ room_of h.old }
+        ensures answer { result ≡ Done }
     {
         operations_end();
         self.operate(h, Op::Nil { g, d }, 1)
@@ -123,7 +142,9 @@ impl Heap {
     pub fn finish<'s>(&self, h: &mut Handle<'s>, g: u32) -> Answer
         requires going { IsGoing self.now h.old }
         requires runs { runs_in h.old g ≡ true }
-        ensures { OperatedWithin self.now (ops.End g) 1 h.old h.new result }
+        ensures did { OperatedWithin self.now (ops.End g) 1 h.old h.new result }
+        ensures room { room_of h.new ≡ room_of h.old }
+        ensures answer { result ≡ Done }
     {
         operations_end();
         self.operate(h, Op::End(g), 1)
@@ -143,7 +164,8 @@ impl Heap {
         requires register { d < REGISTERS }
         requires of_type { t < length (plan_of self.now).script.shapes }
         requires left { 1 ≤ left_of h.old g }
-        ensures { (founds : List ℕ) × Operated self.now (ops.New g d t) h.old h.new result founds }
+        ensures did { (founds : List ℕ) × Operated self.now (ops.New g d t) h.old h.new result founds }
+        ensures answer { IsNameOrFull result }
     {
         self.operate_on(rt, h, Op::New { g, d, t })
     }
@@ -153,7 +175,8 @@ impl Heap {
         requires going { IsGoing self.now h.old }
         requires runs { runs_in h.old g ≡ true }
         requires left { 1 ≤ left_of h.old g }
-        ensures { (founds : List ℕ) × Operated self.now (ops.Gc g) h.old h.new result founds }
+        ensures did { (founds : List ℕ) × Operated self.now (ops.Gc g) h.old h.new result founds }
+        ensures answer { result ≡ Swept }
     {
         self.operate_on(rt, h, Op::Gc { g })
     }

@@ -1,12 +1,13 @@
 //! How handles are gathered, and the heap is closed.
 
-ghost use Rattle.std.specs.Prelude.{◌≡◌, ◌+◌, ◌%◌, ◌^◌, ◌<◌};
+ghost use Rattle.std.specs.Prelude.{◌≡◌, ◌<◌};
 ghost use mathlib.Core.Option.{some};
 ghost use lib.ListN.{get_elem?};
 ghost use Rattle.std.specs.Slots.{slots_items, slots_len, IsFull};
 ghost use Rattle.gh_base.specs.Cells.{length_of, seats_of};
 ghost use Rattle.gh_coord.specs.Listing.{lapsed_at};
 ghost use Rattle.gh_shared.specs.Calls.{Gathered, IsClosedAfter};
+ghost use Rattle.gh_shared.specs.Credit.{earned_by};
 ghost use Rattle.gh_shared.specs.Handles.{carries_of, machine_of, number_of, plan_of, view_of, IsHandleOf};
 ghost use Rattle.gh_shared.specs.Shown.{credit_drawn, first_of, leader_of};
 
@@ -16,6 +17,7 @@ use gh_actor::{ActorMachine, AnyActor, HeapActor};
 use gh_base::Op;
 use gh_base::laws::a_state_is_of_its_own_entries;
 use gh_coord::{Coord, Cycle};
+use gh_explained::every_list_of_a_script_balances;
 use gh_table::close;
 use std::alloc::Global;
 
@@ -85,7 +87,8 @@ impl Heap {
 
     /// Closes the heap, where the handle carries all its actors. Its words are those after one legal list, which has of each
     /// actor exactly the entries of the handle; the cycles are those that the coordinator has kept by then, and the credit that was
-    /// spent is what all processors have drawn.
+    /// spent is what all processors have drawn. Where the coordinator is done, what was earned is the words that workers have scanned in
+    /// that list, and it was spent or has lapsed.
     pub fn close<'s>(self, last: Handle<'s>) -> Closed
         requires of { IsHandleOf self last }
         requires all { carries_of last ≡ seats_of (plan_of self).layout }
@@ -93,6 +96,7 @@ impl Heap {
         ensures many { slots_len result.words.words ≡ length_of (plan_of self).layout }
     {
         a_state_is_of_its_own_entries::<AnyActor, Op>();
+        every_list_of_a_script_balances();
         let Heap { table, layout: _ } = self;
         let Handle {
             hand,
@@ -138,10 +142,10 @@ impl Closed {
         self.coordinator.cycles()
     }
 
-    /// The words of credit that the workers earned and that were spent or have lapsed, modulo 2^64. That is all that they earned once
-    /// the bank is empty, as it is where the coordinator is done; of a heap that is closed before, what is still in the bank is not in it.
+    /// The words of credit that the workers earned and that were spent or have lapsed, modulo 2^64. That is all that they earned, and
+    /// scanned, where the coordinator is done ([`Heap::close`]); of a heap that is closed before, what is still in the bank is not in it.
     pub fn earned(&self) -> u64
-        ensures { result ≡ (self.now.drawn + lapsed_at self.now.coordinator.lapsed self.now.coordinator.stage) % 2 ^ 64 }
+        ensures { result ≡ earned_by self.now.drawn self.now.coordinator }
     {
         self.drawn.wrapping_add(self.lapsed())
     }

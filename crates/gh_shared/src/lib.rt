@@ -30,4 +30,4 @@ pub use closing::Closed;
 pub use fault::OpenFault;
 pub use handle::Handle;
 pub use heap::Heap;
-pub use laws::{answers_are_evers, reads_see_writes};
+pub use laws::{answers_are_evers, loads_see_stores, reads_see_writes};

@@ -7,6 +7,7 @@ use Rattle.gh_law.specs.Credit.{CreditStands, EveryListBalances, lapsed_in, spen
 use Rattle.gh_world.specs.RunVocabulary.{AreFew, CyclesAreFew, ProcessorsBeginFew}
 use Rattle.gh_world.proofs.Asking.{asked_of}
 use Rattle.gh_world.proofs.Wishing.{filter_few}
+use Rattle.gh_explained.specs.Lists.{EveryListOfAScriptSettles}
 use Rattle.gh_explained.proofs.Explained.Answers as answers
 use Rattle.gh_explained.proofs.Explained.Beyond.{all_leave, held_at_end}
 use Rattle.gh_explained.proofs.Explained.Cycles.{cycles_are, is_done, many_ended}
@@ -94,6 +95,38 @@ module _ (laws : Laws) (p : Program) (l : Layout) (formed : WellFormed p) (out :
       let then = ap (λ (e : Ever). e.made n.g) (same_ever es) in
       omega (arith, up, first, then, lt)
 
+  -- ---- where the coordinator is done
+  module _ (es : List (Entry Op)) (c : Coordinating) (legal : Legal (setting_of p l) es) (led : actor_after p l es (l.procs + l.workers) ≡ Actor.Leads c) (done : coord.is_done_at c.stage ≡ true) where
+    -- all credit is settled
+    credit_told : CreditIsTold p l es (outcome_by (answers_given p l es) (spent_after p l es) c)
+    credit_told =
+        let b : CreditStands (setup_of p l) es = laws.balances (given_for p l) es (shapes_good p formed) l.limits (few_in_all p l formed out) legal in
+        let at_end : c.stage ≡ Done = is_done c.stage done in
+        let s = b.settled c led (subst (λ (q : CoordStage). leading.Marks q → ⊥) (sym at_end) (λ x. x)) in
+        let lapsed : lapsed_in es ≡ c.lapsed = s.lapsed ∙ ap (lapsed_at c.lapsed) at_end in
+        let balanced = b.balanced in
+        let drawn : spent_in es ≡ spent_after p l es = b.drawn in
+        let empty = s.empty in
+        let left = s.none_left in
+        let scanned = b.scanned in
+        let few = b.few in
+        let counted = (every es legal).globals c led in
+        let parts = counted.parts in
+        let once = counted.once (subst (λ (q : CoordStage). leading.Marks q → ⊥) (sym at_end) (λ x. x)) in
+        let as_many : length (map swept_cycle c.cycles.items) * l.globals ≡ stored_in Cell.Gen es * l.globals = ap (λ (n : ℕ). n * l.globals) (ap {B = ℕ} length (cycles_are p l known es c legal led done ((every es legal).counts c led)) ∙ many_ended l (setting_of p l).opening es) in
+        -- the sums are far below the end of a word
+        let all : (spent_after p l es + c.lapsed) % 2 ^ 64 ≡ spent_in es + lapsed_in es = omega (arith, lapsed, balanced, drawn, empty, left, scanned, few) in
+        let spent : spent_after p l es % 2 ^ 64 ≡ spent_in es = omega (arith, lapsed, balanced, drawn, empty, left, scanned, few) in
+        record {
+          earned = omega (arith, all, balanced, empty);
+          spent = spent;
+          lapsed = sym lapsed;
+          balanced = omega (arith, all, spent, lapsed);
+          scanned = omega (arith, all, balanced, empty, left, scanned);
+          globals = omega (arith, all, balanced, empty, left, scanned, parts, once, as_many);
+          few = omega (arith, all, balanced, empty, left, scanned, few);
+        }
+
   -- ---- at the end of a run
   module _ (es : List (Entry Op)) (c : Coordinating) (run : IsRun p l es) (led : actor_after p l es (l.procs + l.workers) ≡ Actor.Leads c) where
     stands : AllStands (setup_of p l) es
@@ -135,36 +168,6 @@ module _ (laws : Laws) (p : Program) (l : Layout) (formed : WellFormed p) (out :
     lives : AreLive p.shapes (ever_of p.shapes l es) (outcome_by (answers_given p l es) (spent_after p l es) c).objects c.live
     lives = subst (λ (e : Ever). AreLive p.shapes e (outcome_by (answers_given p l es) (spent_after p l es) c).objects c.live) (same_ever es) (are_live p l of_every es c run.legal led done held (more_made es) few_made)
 
-    -- at the end all credit is settled
-    credit : CreditIsTold p l es (outcome_by (answers_given p l es) (spent_after p l es) c)
-    credit =
-        let b : CreditStands (setup_of p l) es = laws.balances (given_for p l) es (shapes_good p formed) l.limits (few_in_all p l formed out) run.legal in
-        let at_end : c.stage ≡ Done = is_done c.stage done in
-        let s = b.settled c led (subst (λ (q : CoordStage). leading.Marks q → ⊥) (sym at_end) (λ x. x)) in
-        let lapsed : lapsed_in es ≡ c.lapsed = s.lapsed ∙ ap (lapsed_at c.lapsed) at_end in
-        let balanced = b.balanced in
-        let drawn : spent_in es ≡ spent_after p l es = b.drawn in
-        let empty = s.empty in
-        let left = s.none_left in
-        let scanned = b.scanned in
-        let few = b.few in
-        let counted = stands.globals c led in
-        let parts = counted.parts in
-        let once = counted.once (subst (λ (q : CoordStage). leading.Marks q → ⊥) (sym at_end) (λ x. x)) in
-        let as_many : length (map swept_cycle c.cycles.items) * l.globals ≡ stored_in Cell.Gen es * l.globals = ap (λ (n : ℕ). n * l.globals) (ap {B = ℕ} length (cycles_are p l known es c run.legal led done (stands.counts c led)) ∙ many_ended l (setting_of p l).opening es) in
-        -- the sums are far below the end of a word
-        let all : (spent_after p l es + c.lapsed) % 2 ^ 64 ≡ spent_in es + lapsed_in es = omega (arith, lapsed, balanced, drawn, empty, left, scanned, few) in
-        let spent : spent_after p l es % 2 ^ 64 ≡ spent_in es = omega (arith, lapsed, balanced, drawn, empty, left, scanned, few) in
-        record {
-          earned = omega (arith, all, balanced, empty);
-          spent = spent;
-          lapsed = sym lapsed;
-          balanced = omega (arith, all, spent, lapsed);
-          scanned = omega (arith, all, balanced, empty, left, scanned);
-          globals = omega (arith, all, balanced, empty, left, scanned, parts, once, as_many);
-          few = omega (arith, all, balanced, empty, left, scanned, few);
-        }
-
     pub explained : IsExplained p l es (outcome_by (answers_given p l es) (spent_after p l es) c)
     explained = record {
       run = run;
@@ -184,9 +187,12 @@ module _ (laws : Laws) (p : Program) (l : Layout) (formed : WellFormed p) (out :
       cycles = cycles_are p l known es c run.legal led done (stands.counts c led);
       frees = stands.frees;
       frees_within_two = stands.frees_within_two;
-      credit = credit;
+      credit = credit_told es c run.legal led done;
       live = lives;
     }
 
 pub all_explained : Laws → EveryRunIsExplained
 all_explained laws p l es c formed out run led = explained laws p l formed out es c run led
+
+pub all_settled : Laws → EveryListOfAScriptSettles
+all_settled laws p l es c formed out legal led done = credit_told laws p l formed out es c legal led done

@@ -20,7 +20,7 @@ pub new_object-requires-clause-left : goal.new_object-requires-clause-left
 new_object-requires-clause-left g c = let m = (subst (May c.args.heap.now c.args.h.now) c.in-New.is c.requires) in m.fits.2
 
 pub returns-in-New : goal.returns-in-New
-returns-in-New g c = (c.new_object.result, c.new_object.ensures.0, subst (λ (o : Op). Operated c.args.heap.now o c.args.h.now c.new_object.new.h c.new_object.result c.new_object.ensures.0) (sym c.in-New.is) c.new_object.ensures.1, refl)
+returns-in-New g c = (c.new_object.result, c.new_object.ensures.did.0, subst (λ (o : Op). Operated c.args.heap.now o c.args.h.now c.new_object.new.h c.new_object.result c.new_object.ensures.did.0) (sym c.in-New.is) c.new_object.ensures.did.1, refl)
 
 pub load-requires-clause-going : goal.load-requires-clause-going
 load-requires-clause-going g c = c.requires.going
@@ -62,7 +62,7 @@ pub get_global-requires-clause-global : goal.get_global-requires-clause-global
 get_global-requires-clause-global g c = let m = (subst (May c.args.heap.now c.args.h.now) c.in-GetGlobal.is c.requires) in global_there c.args.heap.now c.args.h.now _ _ _ m
 
 pub returns-in-GetGlobal : goal.returns-in-GetGlobal
-returns-in-GetGlobal g c = (c.get_global.result, c.get_global.ensures.founds, subst (λ (o : Op). Operated c.args.heap.now o c.args.h.now c.get_global.new.h c.get_global.result c.get_global.ensures.founds) (sym c.in-GetGlobal.is) c.get_global.ensures.did, refl)
+returns-in-GetGlobal g c = (c.get_global.result, c.get_global.ensures.did.founds, subst (λ (o : Op). Operated c.args.heap.now o c.args.h.now c.get_global.new.h c.get_global.result c.get_global.ensures.did.founds) (sym c.in-GetGlobal.is) c.get_global.ensures.did.did, refl)
 
 pub set_global-requires-clause-going : goal.set_global-requires-clause-going
 set_global-requires-clause-going g c = c.requires.going
@@ -92,7 +92,7 @@ pub int-requires-clause-registers : goal.int-requires-clause-registers
 int-requires-clause-registers g c = let m = (subst (May c.args.heap.now c.args.h.now) c.in-Int.is c.requires) in m.fits
 
 pub returns-in-Int : goal.returns-in-Int
-returns-in-Int g c = (c.int.result, c.int.ensures.founds, subst (λ (o : Op). Operated c.args.heap.now o c.args.h.now c.int.new.h c.int.result c.int.ensures.founds) (sym c.in-Int.is) c.int.ensures.did, refl)
+returns-in-Int g c = (c.int.result, c.int.ensures.did.founds, subst (λ (o : Op). Operated c.args.heap.now o c.args.h.now c.int.new.h c.int.result c.int.ensures.did.founds) (sym c.in-Int.is) c.int.ensures.did.did, refl)
 
 pub move_reg-requires-clause-going : goal.move_reg-requires-clause-going
 move_reg-requires-clause-going g c = c.requires.going
@@ -104,7 +104,7 @@ pub move_reg-requires-clause-registers : goal.move_reg-requires-clause-registers
 move_reg-requires-clause-registers g c = let m = (subst (May c.args.heap.now c.args.h.now) c.in-Move.is c.requires) in m.fits
 
 pub returns-in-Move : goal.returns-in-Move
-returns-in-Move g c = (c.move_reg.result, c.move_reg.ensures.founds, subst (λ (o : Op). Operated c.args.heap.now o c.args.h.now c.move_reg.new.h c.move_reg.result c.move_reg.ensures.founds) (sym c.in-Move.is) c.move_reg.ensures.did, refl)
+returns-in-Move g c = (c.move_reg.result, c.move_reg.ensures.did.founds, subst (λ (o : Op). Operated c.args.heap.now o c.args.h.now c.move_reg.new.h c.move_reg.result c.move_reg.ensures.did.founds) (sym c.in-Move.is) c.move_reg.ensures.did.did, refl)
 
 pub nil-requires-clause-going : goal.nil-requires-clause-going
 nil-requires-clause-going g c = c.requires.going
@@ -116,7 +116,7 @@ pub nil-requires-clause-registers : goal.nil-requires-clause-registers
 nil-requires-clause-registers g c = let m = (subst (May c.args.heap.now c.args.h.now) c.in-Nil.is c.requires) in m.fits
 
 pub returns-in-Nil : goal.returns-in-Nil
-returns-in-Nil g c = (c.nil.result, c.nil.ensures.founds, subst (λ (o : Op). Operated c.args.heap.now o c.args.h.now c.nil.new.h c.nil.result c.nil.ensures.founds) (sym c.in-Nil.is) c.nil.ensures.did, refl)
+returns-in-Nil g c = (c.nil.result, c.nil.ensures.did.founds, subst (λ (o : Op). Operated c.args.heap.now o c.args.h.now c.nil.new.h c.nil.result c.nil.ensures.did.founds) (sym c.in-Nil.is) c.nil.ensures.did.did, refl)
 
 pub collect-requires-clause-going : goal.collect-requires-clause-going
 collect-requires-clause-going g c = c.requires.going
@@ -128,7 +128,7 @@ pub collect-requires-clause-left : goal.collect-requires-clause-left
 collect-requires-clause-left g c = let m = (subst (May c.args.heap.now c.args.h.now) c.in-Gc.is c.requires) in m.fits
 
 pub returns-in-Gc : goal.returns-in-Gc
-returns-in-Gc g c = (c.collect.result, c.collect.ensures.0, subst (λ (o : Op). Operated c.args.heap.now o c.args.h.now c.collect.new.h c.collect.result c.collect.ensures.0) (sym c.in-Gc.is) c.collect.ensures.1, refl)
+returns-in-Gc g c = (c.collect.result, c.collect.ensures.did.0, subst (λ (o : Op). Operated c.args.heap.now o c.args.h.now c.collect.new.h c.collect.result c.collect.ensures.did.0) (sym c.in-Gc.is) c.collect.ensures.did.1, refl)
 
 pub finish-requires-clause-going : goal.finish-requires-clause-going
 finish-requires-clause-going g c = c.requires.going
@@ -137,7 +137,7 @@ pub finish-requires-clause-runs : goal.finish-requires-clause-runs
 finish-requires-clause-runs g c = let m = (subst (May c.args.heap.now c.args.h.now) c.in-End.is c.requires) in m.runs
 
 pub returns-in-End : goal.returns-in-End
-returns-in-End g c = (c.finish.result, c.finish.ensures.founds, subst (λ (o : Op). Operated c.args.heap.now o c.args.h.now c.finish.new.h c.finish.result c.finish.ensures.founds) (sym c.in-End.is) c.finish.ensures.did, refl)
+returns-in-End g c = (c.finish.result, c.finish.ensures.did.founds, subst (λ (o : Op). Operated c.args.heap.now o c.args.h.now c.finish.new.h c.finish.result c.finish.ensures.did.founds) (sym c.in-End.is) c.finish.ensures.did.did, refl)
 
 pub poll-requires : goal.poll-requires
 poll-requires g c = c.requires.going

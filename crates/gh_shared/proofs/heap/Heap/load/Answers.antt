@@ -3,6 +3,7 @@ use Rattle.gh_shared.proofs.Vocabulary.{begins, has, Layout, MachineMayBegin, Op
 use Rattle.gh_shared.proofs.Carrying.{begins_kind, went_on}
 use Rattle.gh_shared.proofs.Faults.{fault_leaves_all}
 use Rattle.gh_shared.proofs.Ready.{kept_after, ready, shows_then}
+use Rattle.gh_shared.proofs.Answering.{load_served}
 use Rattle.gh_shared.proofs.heap.Heap.load.Goals as goal
 
 pub load_at_once-requires-clause-laid : goal.load_at_once-requires-clause-laid
@@ -78,3 +79,9 @@ returns-clause-fault c =
       saw = did.saw;
       shows = shows_then (Op.Load c.args.g c.args.d c.args.b c.args.k) h _ did.founds (Some c.load_at_once.result) c.requires.going.processor c.requires.going.going refl did.ran did.gave;
     }) c.requires.going.processor
+
+pub returns-clause-room : goal.returns-clause-room
+returns-clause-room c = (load_served c.args.self.now c.args.g c.args.d c.args.b c.args.k c.args.h.now _ _ (returns-clause-did c).founds c.requires.going.processor (returns-clause-did c).did).0
+
+pub returns-clause-answer : goal.returns-clause-answer
+returns-clause-answer c = (load_served c.args.self.now c.args.g c.args.d c.args.b c.args.k c.args.h.now _ _ (returns-clause-did c).founds c.requires.going.processor (returns-clause-did c).did).1

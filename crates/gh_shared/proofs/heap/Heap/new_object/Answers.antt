@@ -1,0 +1,5 @@
+use Rattle.gh_shared.proofs.Answering.{new_served}
+use Rattle.gh_shared.proofs.heap.Heap.new_object.Goals as goal
+
+pub returns-clause-answer : goal.returns-clause-answer
+returns-clause-answer g c = new_served c.args.self.now c.args.g c.args.d c.args.t c.args.h.now _ _ c.operate_on.ensures.0 c.requires.going.processor c.operate_on.ensures.1
