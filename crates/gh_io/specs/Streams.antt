@@ -1,6 +1,6 @@
 -- What is known of a stream in memory, and what a write that failed in the middle has done.
 use Rattle.std.specs.Prelude.{ℕ, ◌-◌, ◌<◌, ◌≤◌, ◌⊎◌, min, List, [], ◌++◌, length, take, drop, Option, None, Some, Contains}
-use Rattle.std.specs.Io.KnownBytes.{Appends}
+use Rattle.std.specs.Io.KnownBytes.{Appends, append_known}
 use Rattle.gh_io.specs.Counts.{one_more}
 
 -- the sink has taken the first bytes of the piece, from none to all of them, and nothing else
@@ -91,3 +91,18 @@ fitting sink bytes = of_piece sink.piece (min (length bytes) (sink.room - length
 abbrev pub SinkRefuses : SinkState → List ℕ → Type 0
 SinkRefuses sink bytes =
     Contains sink.failing (one_more sink.calls) ⊎ ((0 < length bytes) × (sink.room ≤ length sink.taken))
+
+-- a sink that gathers what it takes before it hands that on to its writer
+pub record Gathering (W : Type 0) : Type 0 where
+  pub writer : W
+  -- the bytes that are taken and that the writer has not
+  pub held : List ℕ
+  pub faults : ℕ
+
+-- a sink over this writer that has gathered nothing
+abbrev pub nothing_gathered : {W : Type 0} → W → Gathering W
+nothing_gathered writer = record { writer = writer; held = []; faults = 0 }
+
+-- what the writer has, where it tells that, and then what is gathered
+abbrev pub gathered : {W : Type 0} → (W → Option (List ℕ)) → Gathering W → Option (List ℕ)
+gathered contents sink = append_known (contents sink.writer) sink.held

@@ -3,10 +3,13 @@
 //!
 //! What a call says and how it ends is proved of [`gh_top::top`]. Here it gets the words of the
 //! command line, standard input and standard output, a gate that holds nobody, and threads. Nothing goes to standard error.
+//!
+//! Standard output gathers what `top` has it take. So `top` can answer before the last part is written: `main` writes that part out before the
+//! process ends, and ends with status 5 if that fails. That it does so is read here, and no contract says it.
 #![tactic(auto)]
 
 use gh_gate::{Open, Threads};
-use gh_io::{Sink, Source, StdSink, StdSource};
+use gh_io::{Failed, Sink, Source, StdSink, StdSource};
 use gh_top::{Status, top};
 use std::io::ErrorKind;
 use std::process::ExitCode;
@@ -16,8 +19,16 @@ use std::{env, thread};
 
 fn main(rt: HostRuntime) -> ExitCode {
     let mut src = StdSource::new(rt.stdin());
-    let mut out = StdSink::new(rt.stdout());
-    ExitCode::from(called(&rt, &mut src, &mut out).code())
+    let Ok(mut out) = StdSink::new(rt.alloc(), rt.stdout()) else {
+        return ExitCode::from(Status::NoMemory.code());
+    };
+    let status = called(&rt, &mut src, &mut out);
+    // The sink gathers, so the last part goes out here: where that fails, a write failed, whatever `top` answered.
+    let ended = match out.flush() {
+        Ok(()) => status,
+        Err(Failed) => Status::WriteFault,
+    };
+    ExitCode::from(ended.code())
 }
 
 // The call with the words of the command line. Where they cannot be had, and not for want of memory (a

@@ -37,7 +37,7 @@ mod turns;
 use crate::pacing::tell_pacing;
 use crate::stop::Stop;
 use crate::turns::tell_turns;
-use gh_io::{Sink, Source, StdSink, StdSource, read_up_to, write_all};
+use gh_io::{Failed, Sink, Source, StdSink, StdSource, read_up_to, write_all};
 use gh_lines::LineBuf;
 use gh_replay::{Turn, parse_list};
 use gh_script::{MOST_BYTES, ParseError, ScriptFault, parse};
@@ -48,10 +48,15 @@ use std::rt::Env;
 
 fn main(rt: HostRuntime) -> ExitCode {
     let mut src = StdSource::new(rt.stdin());
-    let mut out = StdSink::new(rt.stdout());
-    match called(&rt, &mut src, &mut out) {
-        Ok(()) => ExitCode::from(0),
-        Err(stop) => ExitCode::from(stop.code()),
+    let Ok(mut out) = StdSink::new(rt.alloc(), rt.stdout()) else {
+        return ExitCode::from(Stop::NoMemory.code());
+    };
+    let told = called(&rt, &mut src, &mut out);
+    // The sink gathers, so the last part goes out here, and may fail.
+    match (out.flush(), told) {
+        (Ok(()), Ok(())) => ExitCode::from(0),
+        (Ok(()), Err(stop)) => ExitCode::from(stop.code()),
+        (Err(Failed), _) => ExitCode::from(Stop::WriteFault.code()),
     }
 }
 
