@@ -9,6 +9,7 @@
 #   NAME.steps     at which step of which actor something happens (tools/check_steps.sh)
 #   scripts.refused  the answer, and behind a tab a text that is no script, its lines parted by `|`
 #   words.refused    command lines that are none, each word with a `|` behind it
+#   generated.text   the script of seed 7 and size 12, worked out by a program that has nothing of this repository
 set -u
 cd "$(dirname "$0")/.." || exit 1
 work=$(mktemp -d)
@@ -166,6 +167,12 @@ p*2n*5118 40960 60 1
 END
 }
 
+# The text that `gen` writes.
+generated() {
+  run all runs/generated.text 0 /dev/null gen --seed 7 --size 12
+  run all runs/generated.text 0 /dev/null gen --size=12 --seed=7 --
+}
+
 all_runs() {
   local script
   for script in examples/*.heap runs/*.heap; do
@@ -173,6 +180,7 @@ all_runs() {
     case $script in */longest.heap | */many_grey.heap | */second_span.heap) ;; *) by_seeds "$script" {11..50} ;; esac
   done
   refused
+  generated
   limits
   meetings
   long_ones

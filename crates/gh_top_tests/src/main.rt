@@ -1,9 +1,7 @@
 //! Tests of `gh_top` by its public calls: streams that fail in mid-read and in mid-write, streams in short pieces, sinks with little
-//! room, a spawner that starts no thread, and a command line with all that it may say. What whole scripts write, and what is refused, stands in `runs/`.
+//! room, and a spawner that starts no thread. What whole scripts write, and what is refused, stands in `runs/`.
 #![tactic(auto)]
 
-#[cfg(test)]
-mod line;
 #[cfg(test)]
 mod streams;
 #[cfg(test)]

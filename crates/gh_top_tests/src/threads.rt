@@ -7,10 +7,6 @@ use std::test::Fail;
 
 const TEXT: &str = "go a\nint r1 7\nend\n";
 
-/// The script of seed 7 and size 12, worked out by a program that has nothing of this repository.
-const GENERATED: &str =
-    "procs 4\nworkers 2\narena 1024\nglobals 4\ngogc 50\nminheap 65536\ntype node ppn\ngo g0\nnil r2\ngstore 0 r3\nstore r0 0 r0\nend\ngo g1\nload r1 r2 1\nstore r3 1 r2\nnew r2 node\nend\ngo g2\nmove r2 r3\nmove r3 r3\nnew r0 node\nend\ngo g3\nnew r1 node\nload r1 r3 1\ngstore 3 r1\nend\n";
-
 const RUN: &[&str] = &["goheap", "run"];
 
 const SOAK: &[&str] = &["goheap", "soak", "--seed", "7", "--size", "12"];
@@ -32,32 +28,7 @@ const ROWS: &[Row] = &[
     (RUN, TEXT, &[1], &[], 4, ""),
     (RUN, "go a\nfree r0\nend\n", &[], &[], 3, "line 2: word\n"),
     (SOAK, TEXT, &[1], &[1], 7, ""),
-    (GEN, TEXT, &[1], &[], 0, GENERATED),
     (GEN, TEXT, &[1], &[1], 5, ""),
-    (
-        &["goheap", "run", "--seed", "1"],
-        TEXT,
-        &[1],
-        &[],
-        2,
-        "words refused\n",
-    ),
-    (
-        &["goheap", "gen", "--size", "3"],
-        TEXT,
-        &[1],
-        &[],
-        2,
-        "words refused\n",
-    ),
-    (
-        &["goheap", "soak", "--seed", "7"],
-        TEXT,
-        &[1],
-        &[],
-        2,
-        "words refused\n",
-    ),
 ];
 
 #[test]
@@ -70,11 +41,7 @@ fn where_no_thread_is_had_nothing_is_written(rt: HostRuntime) -> Result<(), Fail
         assert_eq!(rt; status.code(), *code, "{words:?}");
         assert_eq!(rt; out.bytes(), taken.as_bytes(), "{words:?}");
     }
-    Ok(())
-}
-
-#[test]
-fn words_that_ask_for_threads_are_left_to_others(rt: HostRuntime) -> Result<(), Fail> {
+    // who does not wait leaves them to others
     for words in [RUN, SOAK] {
         let mut src = MemSource::new(rt.alloc(), TEXT.as_bytes(), &[1])?;
         let mut out = MemSink::new(rt.alloc(), 1000, &[1])?;

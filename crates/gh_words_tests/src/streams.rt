@@ -2,6 +2,7 @@
 use gh_io::{
     Failed, MemSink, MemSource, ReadError, Sink, Source, StdSink, StdSource, read_up_to, write_all,
 };
+use std::alloc::{AllocError, Global};
 use std::io::{Error, ErrorKind, Read, Write};
 use std::test::Fail;
 
@@ -92,15 +93,100 @@ fn standard_streams_count_their_faults(rt: HostRuntime) -> Result<(), Fail> {
     assert_eq!(rt; source.read(&mut buf), Ok(1));
     assert_eq!(rt; source.read(&mut buf), Err(Failed));
     assert_eq!(rt; (source.faults(), buf.first()), (1, Some(&b'!')));
-    let mut sink = StdSink::new(Full(0));
-    assert_eq!(rt; write_all(&mut sink, b"one"), Err(Failed));
-    assert_eq!(rt; (sink.faults(), write_all(&mut sink, b"")), (1, Ok(())));
-    let mut out = StdSink::new(rt.stdout());
+    let mut sink = StdSink::new(rt.alloc(), Full(0))?;
+    assert_eq!(rt; write_all(&mut sink, b"one"), Ok(()));
+    assert_eq!(rt; (sink.flush(), sink.faults()), (Err(Failed), 1));
+    assert_eq!(rt; write_all(&mut sink, b"two"), Err(Failed));
+    assert_eq!(rt; (sink.faults(), write_all(&mut sink, b"")), (2, Ok(())));
+    let mut out = StdSink::new(rt.alloc(), rt.stdout())?;
     assert_eq!(rt;
         write_all(&mut out, b"written to standard output\n"),
         Ok(())
     );
+    assert_eq!(rt; out.flush(), Ok(()));
     let mut input = StdSource::new(rt.stdin());
     assert_eq!(rt; input.read(&mut []), Ok(0));
+    Ok(())
+}
+
+// A writer that keeps what it takes, at most so much a call, and fails from a call on.
+#[derive(Drop)]
+struct Pipe {
+    bytes: Vec<u8>,
+    most: usize,
+    fails: u64,
+    calls: u64,
+}
+
+impl Write for Pipe {
+    fn write(&mut self, buf: &[u8]) -> std::io::Result<usize> {
+        self.calls = self.calls.saturating_add(1);
+        if self.calls >= self.fails {
+            return Err(Error::from(ErrorKind::BrokenPipe));
+        }
+        let part = &buf[..buf.len().min(self.most)];
+        match self.bytes.extend_from_slice(part) {
+            Ok(()) => Ok(part.len()),
+            Err(_) => Err(Error::from(ErrorKind::OutOfMemory)),
+        }
+    }
+
+    fn flush(&mut self) -> std::io::Result<()> {
+        Ok(())
+    }
+}
+
+// Writes the text in pieces of this size: how many of its bytes were taken, and whether the flush was no fault.
+fn written(
+    alloc: Global,
+    pipe: &mut Pipe,
+    text: &[u8],
+    size: usize,
+) -> Result<(usize, bool), AllocError> {
+    let mut sink = StdSink::new(alloc, pipe)?;
+    let mut taken: usize = 0;
+    for piece in text.chunks(size.max(1)) {
+        if write_all(&mut sink, piece).is_ok() {
+            taken = taken.saturating_add(piece.len());
+        }
+    }
+    let flushed = sink.flush().is_ok();
+    Ok((taken, flushed))
+}
+
+// Up to 65536 bytes go out in one call. After a fault there is one more, when the sink is dropped.
+#[test]
+fn standard_output_is_gathered(rt: HostRuntime) -> Result<(), Fail> {
+    let alloc = rt.alloc();
+    let mut text: Vec<u8> = Vec::with_capacity(alloc, 200000)?;
+    for at in 0..200000u32 {
+        text.push((at % 251) as u8)?;
+    }
+    // bytes of a piece, the most that a call takes, the first call that fails; how many bytes were taken, whether
+    // the flush was no fault, how many bytes the writer has, its calls
+    let cases: [(usize, usize, u64, (usize, bool), usize, u64); 7] = [
+        (100, 65536, 99, (200000, true), 200000, 4),
+        (200000, 65536, 99, (200000, true), 200000, 4),
+        (100, 20000, 99, (200000, true), 200000, 13),
+        (200000, 65536, 1, (0, false), 0, 2),
+        (100, 65536, 2, (131000, false), 65500, 3),
+        (100, 20000, 6, (131000, false), 85500, 7),
+        (100, 65536, 4, (200000, false), 196500, 5),
+    ];
+    for (size, most, fails, found, has, calls) in cases {
+        let mut pipe = Pipe {
+            bytes: Vec::new(alloc),
+            most,
+            fails,
+            calls: 0,
+        };
+        let got = written(alloc, &mut pipe, &text, size)?;
+        assert_eq!(rt;
+            (got, pipe.bytes.len(), pipe.calls),
+            (found, has, calls),
+            "{size} {most} {fails}"
+        );
+        assert!(rt; text.starts_with(&pipe.bytes), "{size} {most} {fails}");
+    }
     Ok(())
 }

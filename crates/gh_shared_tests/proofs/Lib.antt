@@ -1,2 +1,0 @@
-pub mod Popping
-pub mod Running
