@@ -7,51 +7,70 @@ unset CDPATH
 here=$(cd "$(dirname "$(readlink -f "${BASH_SOURCE[0]}")")" && pwd -P) || exit 1
 out=$here/out
 
-say() { printf 'goheap.sh: %s\n' "$*" >&2; }
-# Ends with a status and a line that says why.
-fail() {
-  local status=$1
-  shift
-  say "$*"
-  exit "$status"
-}
+# The words that `tells` has while a program runs (tools/attend.sh).
+tells=''
 
 usage() {
-  cat <<'END'
+  cat <<'END_OF_USAGE'
 usage: goheap.sh replay [--seed n] [--list text] [--budget n] [--check] < file
          runs the script of goroutines in the file, and writes a line for each answer. A list says who steps first, by items that are
          separated by commas: A*n gives actor A n steps, A@m lets it step until its marks are m, A!n gives n turns to others than A
        goheap.sh run < file
-         runs the script with a thread for each processor, each worker and the coordinator, and writes the same lines
+         runs the script with a thread for each processor, each worker and the coordinator, and writes the same lines, save that those of
+         the cycles and of the credit may differ from run to run, and the answers too if goroutines race
        goheap.sh gen --seed n --size n
-         writes a script of four goroutines with size / 4 statements each, drawn from the seed; goheap.sh soak with these words runs it in threads
+         writes a script of four goroutines with size / 4 statements each, drawn from the seed
+       goheap.sh soak --seed n --size n
+         runs that script in threads, and writes how many statements it has and what is live at its end
        goheap.sh example name
          runs examples/name.heap, with the words that its second line has for it
        goheap.sh steps [--pacing] [--list text] < file
          runs it too, and writes a line for each turn at which something happens that a list can wait for, and the arena at each cycle's end;
          with --pacing first, a line for each turn at which the heap's bytes, the trigger or the phase changes
        goheap.sh draw [--list text] < file > run.svg
-         draws these turns, with the phases of the collector, and beneath them the pages, spans and slots at each cycle's end
+         draws these turns, for papers: its rows are events and not time. It has the phases of the collector, and beneath them the pages,
+         spans and slots at each cycle's end. A run of more than 2,000 events is refused
        goheap.sh draw --pacing [--list text] < file > pacing.svg
          draws what paces the cycles of the run: the heap's bytes, the trigger and the goal over its turns
        goheap.sh prove
          has all proofs below the program checked, and builds the program that replay runs from then on
        goheap.sh program
          prints where the program is that replay runs, so that it can be run without goheap.sh
+       goheap.sh --version
+         says which sources these are, and whether a program of them is built
+       goheap.sh help [command]
+         prints this, or what it says of the command, as the command does with --help
   For example: ./goheap.sh replay < examples/first.heap
-  README.md says what goheap is, docs/SCRIPTS.md what a script may say.
-END
+  README.md says what goheap is, docs/SCRIPTS.md what a script may say and how each command ends.
+END_OF_USAGE
+}
+# What the usage says of a command; it fails if that is none.
+usage_of() {
+  usage | awk -v command="$1" '/goheap.sh [a-z-]+/ && /^(usage:|      ) / { on = $0 ~ ("goheap.sh " command "( |$)") } /^  [A-Z]/ { on = 0 }
+    on { sub(/^      /, count ? "      " : "usage:"); print; count++ } END { exit !count }'
 }
 
-for part in crates crates.txt HANDLES tools/words.sh tools/sources.sh tools/build.sh tools/hint.awk tools/draw.awk tools/pacing.awk; do
-  [ -e "$here/$part" ] || fail 1 "$here has no $part: goheap.sh runs in a checkout of the whole repository"
+here_is_all=yes
+for part in crates crates.txt HANDLES tools/attend.sh tools/hints.sh tools/words.sh tools/sources.sh tools/build.sh tools/shows.sh \
+  tools/hint.awk tools/draw.awk tools/pacing.awk; do
+  [ -e "$here/$part" ] || { here_is_all=no && break; }
 done
+if [ "$here_is_all" = no ]; then
+  printf 'goheap.sh: %s has no %s: goheap.sh runs in a checkout of the whole repository\n' "$here" "$part" >&2
+  exit 1
+fi
+# shellcheck source=tools/attend.sh
+. "$here/tools/attend.sh"
+# shellcheck source=tools/hints.sh
+. "$here/tools/hints.sh"
 # shellcheck source=tools/words.sh
 . "$here/tools/words.sh"
 # shellcheck source=tools/sources.sh
 . "$here/tools/sources.sh"
 # shellcheck source=tools/build.sh
 . "$here/tools/build.sh"
+# shellcheck source=tools/shows.sh
+. "$here/tools/shows.sh"
 
 # Whether a program is there. One that is there and may not be executed is no cause to build another.
 may_run() {
@@ -80,65 +99,43 @@ choose_program() {
 # Standard input, so that it can be read a second time: a file from where it stands, and of what is no file a copy, of at most one
 # byte more than a script may have.
 keep_text() {
-  local copy
   text='' skipped=0
+  make_room
   if [ -f /dev/stdin ]; then
     text=/dev/stdin
     read -r _ skipped <"/proc/$$/fdinfo/0" || skipped=0
   elif [ -p /dev/stdin ] || [ -t 0 ]; then
     if [ -t 0 ]; then say 'the script is read from the terminal, up to Ctrl-D; a file is given by < file'; fi
-    copy=$(mktemp 2>/dev/null) || return 0
-    if ! head -c 4194305 >"$copy"; then
-      rm -f "$copy"
-      fail 4 'standard input cannot be read'
-    fi
-    exec 8<"$copy"
+    [ -n "$room" ] || return 0
+    attend head -c 4194305 >"$room/text"
+    if [ "$status" -ne 0 ]; then fail 4 'standard input cannot be read'; fi
+    exec 8<"$room/text"
     # It has no name any more, and ends with this process.
-    rm -f "$copy"
+    rm -f "$room/text"
     text=/proc/$$/fd/8
     exec <"$text"
   fi
 }
 
-# Runs the program on standard input, and passes on to it that goheap.sh is to stop.
-run() {
-  local child timer asked=''
-  "$program" "$@" <&0 &
-  child=$!
-  trap 'asked=yes; kill -TERM "$child" 2>/dev/null' INT TERM HUP
-  if [ "$is_proved" = no ]; then
-    sleep "${GOHEAP_PATIENCE:-10}" >/dev/null 2>&1 &
-    timer=$!
-    wait -n "$child" "$timer"
-    if [ -z "$asked" ] && kill -0 "$child" 2>/dev/null; then
-      say 'still running: without proofs the program tests each thing that it does, and is some hundreds of times slower than the proved one'
-    fi
-    kill "$timer" 2>/dev/null
-  fi
-  while
-    wait "$child"
-    status=$?
-    kill -0 "$child" 2>/dev/null
-  do :; done
-  trap - INT TERM HUP
-}
-
-# A line more where the text is no script: what stands there, and what could.
-hint() {
-  local told
-  [ -n "$text" ] || return
-  told=$(tail -c "+$((skipped + 1))" "$text" | "$program" "$@" 2>/dev/null)
-  tail -c "+$((skipped + 1))" "$text" | LC_ALL=C awk -v told="$told" -f "$here/tools/hint.awk" >&2
-}
-
 run_and_end() {
-  run "$@"
-  if [ "$status" -eq 3 ]; then hint "$@"; fi
+  if [ "$is_proved" = no ] && [ -z "$tells" ]; then
+    tells='still running: without proofs the program tests each thing that it does, and is some hundreds of times slower than the proved one'
+  fi
+  attend "$program" "$@"
+  tell_end "$@"
   exit "$status"
+}
+# Why the program has ended as `status` says.
+tell_end() {
+  case $status in
+    3) hint_of_text "$@" ;;
+    4) hint_of_input ;;
+    8) if [ "$crate" = goheap ]; then hint_of_budget "$@"; fi ;;
+  esac
 }
 
 replay() {
-  check_words "$@"
+  check_words replay "$@"
   keep_text
   choose_program goheap
   run_and_end replay "$@"
@@ -151,8 +148,8 @@ threads() {
   run_and_end run "$@"
 }
 
-# Of gen and soak the program alone reads the words.
 generated() {
+  check_generated "$@"
   text=''
   choose_program goheap
   run_and_end "$@" </dev/null
@@ -168,48 +165,18 @@ example() {
   replay ${words[@]+"${words[@]}"} "${@:2}" <"$script"
 }
 
-# The list among the words of a command that takes one, and before it whether the pacing is asked for.
-list_of() {
-  local command=$1
-  shift
-  list='' how=''
-  if [ "${1-}" = --pacing ]; then
-    how=$1
-    shift
-  fi
-  case $#:${1-} in
-    0:) ;;
-    2:--list) list=$2 ;;
-    1:--list=*) list=${1#--list=} ;;
-    *) refuse "'$*' is not what $command takes, which is --pacing, --list text, both or nothing" ;;
-  esac
-  check_words "$@"
+version() {
+  local built=no commit
+  crate=goheap
+  know_sources
+  if [ -x "$out/goheap-$name" ] || rt_has_proved; then built='a proved program of them'; elif [ -x "$out/unproved-goheap-$name" ]; then built='a program of them without proofs'; fi
+  commit=$(git -C "$here" rev-parse --short HEAD 2>/dev/null)
+  echo "goheap, sources $name${commit:+, commit $commit}; $([ "$built" = no ] && echo 'no program of them is built yet' || echo "$built is built")"
 }
 
-steps() {
-  list_of steps "$@"
-  keep_text
-  choose_program goheap_steps
-  run_and_end ${how:+"$how"} ${list:+"$list"}
-}
-
-draw() {
-  local told picture=draw
-  list_of draw "$@"
-  if [ -n "$how" ]; then picture=pacing; fi
-  keep_text
-  choose_program goheap_steps
-  told=$("$program" ${how:+"$how"} ${list:+"$list"})
-  status=$?
-  if [ "$status" -eq 0 ]; then
-    awk -f "$here/tools/$picture.awk" <(tail -c "+$((skipped + 1))" "${text:-/dev/null}") - <<<"$told"
-    return
-  fi
-  printf '%s\n' "$told" >&2
-  if [ "$status" -eq 3 ]; then hint ${how:+"$how"} ${list:+"$list"}; fi
-  exit "$status"
-}
-
+case ${2-} in
+  -h | --help) if usage_of "${1-}"; then exit 0; fi ;;
+esac
 case "${1-}" in
   replay) replay "${@:2}" ;;
   run) threads "${@:2}" ;;
@@ -230,7 +197,10 @@ case "${1-}" in
     choose_program goheap
     echo "$program"
     ;;
-  -h | --help) usage ;;
+  --version | version) version ;;
+  -h | --help | help)
+    if [ $# -le 1 ]; then usage; else usage_of "$2" || fail 2 "'$2' is no command"; fi
+    ;;
   *)
     if [ $# -gt 0 ]; then say "'$1' is no command"; fi
     if [ -f "${1-}" ]; then say "a script is read from standard input: goheap.sh replay < $1"; fi

@@ -1,42 +1,46 @@
 #!/usr/bin/env bash
-# The example of README.md's section "Use it as a library" is what stands between the two marks of crates/goheap_example/src/main.rt, and what
-# the section says that it prints is that crate's `stdout`.
+# The example of docs/LIBRARY.md's section "A whole program" is what stands between the two marks of crates/goheap_example/src/main.rt, and what
+# the section says that it prints is that crate's `stdout`. README.md's section "The library" shows the function `play` of it.
 set -u
 cd "$(dirname "$0")/.." || exit 1
 program=crates/goheap_example passed=0 failed=0
 
-# The n-th block of the section, without its fences.
+# The n-th block of a page's section, without its fences.
 block() {
-  awk -v wanted="$1" '/^## / { on = $0 == "## Use it as a library"; next }
+  awk -v section="## $2" -v wanted="$3" '/^## / { on = $0 == section; next }
     on && /^```/ { inside = !inside; if (inside) n++; next }
-    on && inside && n == wanted' README.md
+    on && inside && n == wanted' "$1"
 }
 # What stands between the marks, where each stands once and in this order.
 marked() {
-  awk '$0 == "// README.md shows this, up to here." { ends++; on = 0 }
+  awk '$0 == "// docs/LIBRARY.md shows this, up to here." { ends++; on = 0 }
     on
-    $0 == "// README.md shows this, from here on." { begins++; on = 1 }
+    $0 == "// docs/LIBRARY.md shows this, from here on." { begins++; on = 1 }
     END { exit !(begins == 1 && ends == 1 && !on) }' "$program/src/main.rt"
 }
 
-# What README.md has is what stands in the crate, and is not nothing.
+# The function of this name.
+function_of() { awk -v begin="fn $1<" 'index($0, begin) == 1 { on = 1 } on; on && /^}/ { exit }' "$program/src/main.rt"; }
+
+# What a page has is what stands in the crate, and is not nothing.
 compare() {
   local what=$1 shown=$2 file=$3 stands=$4
   if [ -n "$shown" ] && [ "$shown" = "$stands" ]; then
     passed=$((passed + 1))
   else
-    echo "check_library_example: $what in README.md (<) is not that of $file (>):"
+    echo "check_library_example: $what (<) is not that of $file (>):"
     diff <(printf '%s\n' "$shown") <(printf '%s\n' "$stands")
     failed=$((failed + 1))
   fi
 }
 
 if stands=$(marked); then
-  compare 'the example' "$(block 1)" "$program/src/main.rt" "$stands"
+  compare 'the example in docs/LIBRARY.md' "$(block docs/LIBRARY.md 'A whole program' 1)" "$program/src/main.rt" "$stands"
 else
   echo "check_library_example: $program/src/main.rt does not have its two marks, each once"
   failed=$((failed + 1))
 fi
-compare 'what it prints' "$(block 2)" "$program/stdout" "$(cat "$program/stdout")"
+compare 'what it prints by docs/LIBRARY.md' "$(block docs/LIBRARY.md 'A whole program' 2)" "$program/stdout" "$(cat "$program/stdout")"
+compare 'the function play in README.md' "$(block README.md 'The library' 1)" "$program/src/main.rt" "$(function_of play)"
 echo "library example: $passed passed, $failed failed"
 [ "$failed" -eq 0 ]

@@ -11,7 +11,7 @@ there_is() {
     failed=1
   fi
 }
-for page in README.md docs/*.md docs/*/*.md; do
+for page in README.md docs/*.md docs/*/*.md bench/*.md; do
   while read -r link; do
     there_is "$page" "$(dirname "$page")/$link"
   done < <(grep -o '](\([^)#:]*\))' "$page" | sed 's/^](//; s/)$//')

@@ -1,6 +1,6 @@
 #!/usr/bin/env bash
 # Holds docs/SCRIPTS.md to the program and to the table of size classes: what each easily made mistake is answered, and the sizes of slots.
-# Holds the table of README.md of what gogc changes to the stored runs.
+# Holds the table of docs/PACING.md of what gogc changes to the stored runs.
 # GOHEAP names another program to run than goheap.sh's (tools/program.sh).
 set -u
 cd "$(dirname "$0")/.." || exit 1
@@ -31,8 +31,8 @@ of_code=$(paste -d' ' <(sizes SLOT_BYTES) <(sizes PAGES) | awk '{ print $1 / 8, 
 of_page=$(awk -F'|' '/^\| [0-9,]+ \| [0-9]+ \| [0-9] \|/ { gsub(/[ ,]/, ""); print $2, $3, $4; if ($6) print $6, $7, $8 }' "$page" | sort -n)
 tried 'the sizes of slots' "$of_page" "$of_code"
 
-# The lines of a column of README.md's table.
-column() { awk -F'|' -v k="$1" '/^\| `c(ycle|redit) / { line = $k; gsub(/[ `]*$|^[ `]*/, "", line); if (line != "") print line }' README.md; }
+# The lines of a column of that table.
+column() { awk -F'|' -v k="$1" '/^\| `c(ycle|redit) / { line = $k; gsub(/[ `]*$|^[ `]*/, "", line); if (line != "") print line }' docs/PACING.md; }
 tried 'gogc 50' "$(column 2)" "$(grep '^c[yr]' runs/pacing_50.out)"
 tried 'gogc 100' "$(column 3)" "$(grep '^c[yr]' runs/pacing.out)"
 tried 'gogc 400' "$(column 4)" "$(grep '^c[yr]' runs/pacing_400.out)"

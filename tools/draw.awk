@@ -1,10 +1,10 @@
 # A part of goheap.sh: draws a run, as an SVG, from its script (the first file) and the lines of goheap_steps (the second). Each actor has a
-# lane, and turns go down: a row for each turn at which something happens. Bands show the phases of the collector. These are told by the order in which the coordinator stores the phase,
+# lane, and turns go down: a row for each turn at which something happens, so that the drawing is not to scale in turns. Bands show the phases of the collector. These are told by the order in which the coordinator stores the phase,
 # which is a stop, marking, and a stop again; then off, where the marking of the cycle has ended meanwhile, and else marking again. The last one
 # says that all is over, and is no band.
 # Beneath the lanes stands the arena, where the marking of each cycle has ended and where the cycle is swept: a strip of all pages, and the slots of each span.
 # It is tested (tools/check_steps.sh), and nothing is proved of it.
-function escaped(text) { gsub(/&/, "\\&amp;", text); gsub(/</, "\\&lt;", text); return text }
+function escaped(text) { gsub(/[\001-\037\177]/, "?", text); gsub(/&/, "\\&amp;", text); gsub(/</, "\\&lt;", text); return text }
 # From the turn of this row on, the phase is another.
 function change(row, to) { if (row > from) bands = bands band(from, row, phase); from = row; phase = to }
 function band(top, end, name) {
@@ -42,7 +42,7 @@ END {
   right = left + lanes * wide + 20
   for (row = 0; row < rows; row++) draw(row)
   change(rows, "off")
-  bottom = y(rows) + 30 + (shades ? 17 : 0)
+  bottom = y(rows) + 47 + (shades ? 17 : 0)
   if (moments > 0) { write_at("plain", edge, bottom + 8, "The arena where a cycle's marking has ended, and where it is swept: pages, spans with their class, and slots."); bottom += 24 }
   for (m = 1; m < moments; m += 2) cycle(m)
   if (moments > 0) legend()
@@ -58,8 +58,9 @@ END {
   }
   printf "%s", body
   printf "%s", below
-  print "<text class=\"plain\" x=\"14\" y=\"" y(rows) + 18 "\">" turns " turns. A blue dot: a statement acts; the thick line leads to its answer.</text>"
-  if (shades) print "<text class=\"plain\" x=\"14\" y=\"" y(rows) + 35 "\">A brown dot: a processor shades an object, in the barrier of its next store or where it scans a stack.</text>"
+  print "<text class=\"plain\" x=\"14\" y=\"" y(rows) + 18 "\">" turns " turns. A row is an event, and its height no time: the number at its left is the turn.</text>"
+  print "<text class=\"plain\" x=\"14\" y=\"" y(rows) + 35 "\">A blue dot: a statement acts; the thick line leads to its answer.</text>"
+  if (shades) print "<text class=\"plain\" x=\"14\" y=\"" y(rows) + 52 "\">A brown dot: a processor shades an object, in the barrier of its next store or where it scans a stack.</text>"
   print "</svg>"
 }
 function draw(row,   text, a, words, told, answer) {

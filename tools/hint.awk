@@ -12,18 +12,28 @@ BEGIN {
   split("procs 1 to 8,workers 1 to 4,arena 16 to 1024,globals 1 to 256,gogc 0 to 1000,minheap 0 to 8388608,repeat 1 to 200000", rows, ",")
   for (i = 1; i in rows; i++) { name = rows[i]; sub(/ .*/, "", name); sub(/^[a-z]+ /, "", rows[i]); limits[name] = rows[i] }
 }
+NR == 1 { mark = mark_of($0) }
 { sub(/\r$/, "") }
-NR == at { line = $0; n = split($0, word, /[ \t]+/); if (word[1] == "") for (i = 1; i <= n; i++) word[i] = word[i + 1]; while (n > 0 && word[n] == "") n-- }
+NR == at { line = $0; n = split($0, word, /[ \t]+/); if (word[1] == "") for (i = 1; i <= n; i++) word[i] = word[i + 1]; while (n > 0 && word[n] == "") n--; for (i = 1; i <= n; i++) if (length(word[i]) > 40) word[i] = substr(word[i], 1, 40) ".." }
 NR < at && $1 == "type" && NF == 3 { types = types " " $2 }
 NR < at && $1 == "globals" { globals = $2 }
 END {
   if (!why) exit
   if (length(line) > 60) line = substr(line, 1, 60) ".."
-  gsub(/[^ -~]/, "?", line)
   if (at > 0) line = "line " at " is \"" line "\": "
-  print "goheap.sh: " line says()
+  line = line says()
+  # Of what is quoted nothing reaches a terminal that it would obey.
+  gsub(/[^ -~]/, "?", line)
+  print "goheap.sh: " line
+}
+# The byte-order mark with which a text begins, if it does.
+function mark_of(text) {
+  if (substr(text, 1, 3) == "\357\273\277") return "UTF-8"
+  if (substr(text, 1, 2) == "\377\376" || substr(text, 1, 2) == "\376\377") return "UTF-16"
+  return ""
 }
 function says() {
+  if (why == "word" && at == 1 && mark == "UTF-8") return "a byte-order mark (EF BB BF) stands before its first word: save the text as UTF-8 without one"
   if (why == "word") return of_word()
   if (why == "number") return of_number()
   if (why == "limit") return of_limit()
@@ -32,7 +42,7 @@ function says() {
   if (why == "nesting") return of_nesting()
   if (why == "missing") return "the text has no goroutine: lines from `go name` to `end`"
   if (why == "size") return "the text has more than 4194304 bytes"
-  return "the text is no UTF-8"
+  return "the text is no UTF-8" (mark == "UTF-16" ? ": it begins with the byte-order mark of UTF-16, and is to be saved as UTF-8 without one" : "")
 }
 function fits(kind, text) {
   if (kind == "r") return text ~ /^r([0-9]|1[0-5])$/

@@ -57,7 +57,7 @@ function x(at) { return left + wide * at / (turns > 0 ? turns : 1) }
 function y(bytes) { return top + high - high * bytes / most }
 function counted(n,   text) { text = n ""; if (length(text) > 3) return counted(substr(text, 1, length(text) - 3)) "," substr(text, length(text) - 2); return text }
 function write_at(class, at, base, text) { written = written sprintf("<text class=\"%s\" x=\"%.1f\" y=\"%.1f\">%s</text>\n", class, at, base, text) }
-function escaped(text) { gsub(/&/, "\\&amp;", text); gsub(/</, "\\&lt;", text); return text }
+function escaped(text) { gsub(/[\001-\037\177]/, "?", text); gsub(/&/, "\\&amp;", text); gsub(/</, "\\&lt;", text); return text }
 # The phases that are not off, each with its name where that has room.
 function bands(   i, from) {
   for (i = 1; i <= many + 1; i++) {

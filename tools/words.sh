@@ -1,4 +1,4 @@
-# A part of goheap.sh: the words behind `replay`. What the program would not take is refused before anything is built, as the
+# A part of goheap.sh: the words behind `replay`, `gen` and `soak`. What the program would not take is refused before anything is built, as the
 # program refuses it, and on standard error the wrong word is named.
 
 refuse() {
@@ -12,9 +12,10 @@ is_number() {
   [[ $n =~ ^\+?[0-9]+$ ]] || return 1
   n=${n#+}
   while [[ $n = 0?* ]]; do n=${n#0}; done
-  [ ${#n} -lt ${#most} ] || { [ ${#n} -eq ${#most} ] && [[ ! $n > $most ]]; } || return 1
-  [ "$least" -eq 0 ] || [ "$n" != 0 ]
+  is_at_most "$n" "$most" && is_at_most "$least" "$n"
 }
+# Of two numbers without leading zeros, of any length.
+is_at_most() { [ ${#1} -lt ${#2} ] || { [ ${#1} -eq ${#2} ] && [[ ! $1 > $2 ]]; }; }
 
 # The first item of a list that is none, or nothing.
 wrong_item() {
@@ -29,6 +30,7 @@ check_value() {
   case $option in
     --seed) is_number "$value" 0 18446744073709551615 || refuse "'$value' is no seed: a number from 0 to 18446744073709551615" ;;
     --budget) is_number "$value" 1 1000000000 || refuse "'$value' is no budget: a number of turns from 1 to 1000000000" ;;
+    --size) is_number "$value" 4 200000 || refuse "'$value' is no size: a number of statements from 4 to 200000" ;;
     --list)
       case $value in '' | *,) refuse "'$value' is no list: items such as 0@4 or 2*3, separated by single commas" ;; esac
       wrong=$(wrong_item "$value")
@@ -37,22 +39,28 @@ check_value() {
   esac
 }
 
-check_words() {
-  local word option seen=' '
+# Whether the words of a command are options that it takes, each at most once and with its value. `takes` has those that take a value,
+# `flags` those that take none, and `seen` has them behind it.
+check_options() {
+  local command=$1 word option
+  shift
+  seen=' '
   while [ $# -gt 0 ]; do
     word=$1 option=${1%%=*}
     shift
-    case $word in
-      --) [ $# -eq 0 ] && return 0; refuse "'$1' stands behind --, where no word is taken" ;;
-      --check | --seed | --list | --budget | --seed=* | --list=* | --budget=*) ;;
+    case " $takes $flags -- " in
+      *" $word "*) ;;
       *)
-        if [ -f "$word" ]; then say "a script is read from standard input: goheap.sh replay < $word"; fi
-        refuse "'$word' is no word of replay, which takes --seed n, --list text, --budget n and --check"
+        case " $takes " in *" $option "*) ;; *) unknown_word "$command" "$word" ;; esac
         ;;
     esac
+    if [ "$word" = -- ]; then
+      [ $# -eq 0 ] && return 0
+      refuse "'$1' stands behind --, where no word is taken"
+    fi
     case $seen in *" $option "*) refuse "'$option' stands a second time" ;; esac
     seen="$seen$option "
-    if [ "$word" = --check ]; then continue; fi
+    case " $flags " in *" $word "*) continue ;; esac
     if [ "$word" = "$option" ]; then
       [ $# -gt 0 ] || refuse "'$option' is followed by a value"
       case $1 in -*) refuse "'$1' is no value of $option" ;; esac
@@ -61,5 +69,31 @@ check_words() {
     else
       check_value "$option" "${word#*=}"
     fi
+  done
+}
+
+unknown_word() {
+  if [ -f "$2" ] && [ "$takes" != '--seed --size' ]; then say "a script is read from standard input: goheap.sh $1 < $2"; fi
+  refuse "'$2' is no word of $1, which takes $(named_options)"
+}
+named_options() {
+  case $takes in
+    '--seed --size') echo '--seed n and --size n' ;;
+    *) echo '--seed n, --list text, --budget n and --check' ;;
+  esac
+}
+
+# The words behind `replay`, or behind another command that takes the same.
+check_words() {
+  local takes='--seed --list --budget' flags=--check
+  check_options "$@"
+}
+
+# The words behind `gen` or `soak`, both of which are to stand there.
+check_generated() {
+  local takes='--seed --size' flags='' option
+  check_options "$@"
+  for option in $takes; do
+    case $seen in *" $option "*) ;; *) refuse "$1 takes --seed n and --size n, and $option is not there" ;; esac
   done
 }
