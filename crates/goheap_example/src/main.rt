@@ -1,10 +1,10 @@
 //! The heap as a library: a program that opens one, runs its actors in threads, and closes it.
 //!
-//! README.md shows what stands between the two marks here, and `tools/check_library_example.sh` compares them. How the actors are run in
+//! docs/LIBRARY.md shows what stands between the two marks here, and `tools/check_library_example.sh` compares them. How the actors are run in
 //! threads is in `actor.rt`.
 #![tactic(auto)]
 
-// README.md shows this, from here on.
+// docs/LIBRARY.md shows this, from here on.
 ghost use Rattle.gh_shared.specs.Handles.{IsHandleOf, IsHeapOf};
 
 mod actor;
@@ -60,4 +60,4 @@ fn main(rt: HostRuntime) -> Result<()> {
     println!(rt; "live bytes {}", closed.live())?;
     Ok(())
 }
-// README.md shows this, up to here.
+// docs/LIBRARY.md shows this, up to here.
