@@ -1,7 +1,7 @@
 -- Where a cycle begins: the state of marking, made of what a script reaches.
-use Rattle.std.proofs.Common.{◌≡◌, ℕ, ◌+◌, ◌-◌, ◌*◌, ◌%◌, ◌<◌, ◌≤◌, Bool, true, false, cond, ltb, inl, inr, refl, sym, ap, subst, arith, ◌∙◌}
+use Rattle.std.proofs.Common.{◌≡◌, ℕ, ◌+◌, ◌-◌, ◌*◌, ◌%◌, ◌<◌, ◌≤◌, Bool, true, false, cond, ltb, Some, inl, inr, refl, sym, ap, subst, arith, ◌∙◌}
 use Rattle.std.proofs.lemmas.Bool.{ltb-true, ltb-false}
-use Rattle.gh_cycle.proofs.Vocabulary.{alloc_words, Arena, bit_at-zero, Cell, Cycle, CyclesOpen, Decided, END, eqb_tells, EverValue, Extents, from_field, from_global, from_register, Good, Heap, Holds, IsBounded, IsCycleOf, IsMade, IsOpened, IsPointer, IsReachedAt, IsSince, mark_words, Marking, Name, OpenedHeapsAreAtRest, OpenedRegistersFit, Opens, Place, PlacesAreDecided, points, Reach, reference_of, register_for_marking, row_bit, shape_for, size_for, TheHeapIsApart, TheReachedWereMade, Untouched, view, White, Words, WordsAreAtRest}
+use Rattle.gh_cycle.proofs.Vocabulary.{alloc_words, Arena, bit_at-zero, Cell, Cycle, CyclesOpen, Decided, END, eqb_tells, EverValue, Extents, from_field, from_global, from_register, Good, Heap, Holds, IsBounded, IsCycleOf, IsMade, IsOpened, IsPointer, IsReachedAt, IsSince, mark_words, Marking, Name, names, OpenedHeapsAreAtRest, OpenedRegistersFit, Opens, Place, PlacesAreDecided, points, Reach, reference_of, reference_to, register_for_marking, row_bit, shape_for, size_for, TheHeapIsApart, TheReachedWereMade, Untouched, view, White, Words, WordsAreAtRest}
 
 -- no bit is set in a row of words that are 0
 no-bit : (o : ℕ) → row_bit (λ i. 0) o ≡ 0
@@ -19,11 +19,21 @@ opened-at-rest z trigger number h some same = record {
 }
 
 -- a word of the heap names what the value names
-pub names-it : (place : Place) (made : ℕ → ℕ) (v : EverValue) (word o : ℕ) → Holds place made true v word → word ≡ o + 1 → (n : Name) × (v ≡ EverValue.Ref n) × (place n ≡ o)
-names-it place made v word o holds is = grind arith
+pub names-it : (place : Place) (made : ℕ → ℕ) (v : EverValue) (word o : ℕ) → Holds place made true v word → word ≡ o + 1 → (n : Name) × (names v ≡ Some n) × (place n ≡ o)
+names-it place made EverValue.Nil word o holds is = absurd (let zero = holds.1 in omega (arith, zero, is))
+names-it place made (EverValue.Int i) word o holds is = absurd (let number = holds.0 in cc)
+names-it place made (EverValue.Ref n) word o holds is = (n, refl, let at = holds.1 in omega (arith, at, is))
 
-pub names-reference : (place : Place) (v : EverValue) (o : ℕ) → reference_of place v ≡ o + 1 → (n : Name) × (v ≡ EverValue.Ref n) × (place n ≡ o)
-names-reference place v o is = grind arith
+pub names-reference : (place : Place) (v : EverValue) (o : ℕ) → reference_of place v ≡ o + 1 → (n : Name) × (names v ≡ Some n) × (place n ≡ o)
+names-reference place EverValue.Nil o is = absurd (omega (arith, is))
+names-reference place (EverValue.Int i) o is = absurd (omega (arith, is))
+names-reference place (EverValue.Ref n) o is = (n, refl, omega (arith, is))
+
+-- and the reference of a value is that of what it names
+pub reference-told : (place : Place) (v : EverValue) (n : Name) → names v ≡ Some n → reference_of place v ≡ reference_to place n
+reference-told place EverValue.Nil n is = absurd (cc)
+reference-told place (EverValue.Int i) n is = absurd (cc)
+reference-told place (EverValue.Ref m) n is = let same : m ≡ n = cc in ap (reference_to place) same
 
 module _ (z : Arena) (h : Heap) (g : Good z (view h)) (b : IsBounded z h.ever) (made : TheReachedWereMade) where
   pub is-made : (n : Name) → Reach h.ever n → IsMade h.ever.made n

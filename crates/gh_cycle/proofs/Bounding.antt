@@ -1,7 +1,7 @@
 -- In the heap that never frees, what names an object is one of the places that the heap has, and the object was made.
-use Rattle.std.proofs.Common.{◌≡◌, ℕ, ◌+◌, ◌<◌, ◌≤◌, ◌⊎◌, Bool, true, false, cond, eqb, inl, inr, refl, sym, subst, arith, ◌&&◌}
+use Rattle.std.proofs.Common.{◌≡◌, ℕ, ◌+◌, ◌<◌, ◌≤◌, ◌⊎◌, Bool, true, false, cond, eqb, Some, inl, inr, refl, sym, subst, arith, ◌&&◌}
 use Rattle.std.proofs.lemmas.Bool.{eqb-true, eq-eqb}
-use Rattle.gh_cycle.proofs.Vocabulary.{answer_of, answer_of_value, Arena, BoundsLast, eqb_tells, Ever, ever_after, EverValue, field_count, first_value, fits, has_field, is_number, is_pointer, is_pointer_field, IsBounded, IsInRange, IsMade, load_answer, Name, nat_tests, next_name, opening_ever, REGISTERS, same_name, sets_global, shape_at, size_for, store_answer, stores_value, takes_answer, with_end, with_field, with_global, with_object, with_register}
+use Rattle.gh_cycle.proofs.Vocabulary.{answer_of, answer_of_value, Arena, BoundsLast, eqb_tells, Ever, ever_after, EverValue, field_count, first_value, fits, has_field, is_number, is_pointer, is_pointer_field, IsBounded, IsInRange, IsMade, load_answer, Name, names, nat_tests, next_name, opening_ever, REGISTERS, same_name, sets_global, shape_at, size_for, store_answer, stores_value, takes_answer, with_end, with_field, with_global, with_object, with_register}
 use Rattle.gh_base.specs.declared.operation.Op.{Op}
 use Rattle.gh_base.specs.declared.value.Answer.{Answer}
 use Rattle.gh_base.specs.declared.value.Fault.{Fault}
@@ -18,17 +18,18 @@ bounded-opening z = record { registers = λ g d n e. absurd (cc); globals = λ k
 more-made : (made : ℕ → ℕ) (g : ℕ) (n : Name) → IsMade made n → n.k < cond (eqb n.g g) (made g + 1) (made n.g)
 more-made made g n h = grind arith
 
-first-plain : (b : Bool) (n : Name) → first_value b ≡ EverValue.Ref n → ⊥
-first-plain b n e = grind arith
+first-plain : (b : Bool) (n : Name) → names (first_value b) ≡ Some n → ⊥
+first-plain true n e = absurd (cc)
+first-plain false n e = absurd (cc)
 
 -- a value that names nothing, or an object that was made
 abbrev Made : Ever → EverValue → Type 0
-Made e x = (n : Name) → x ≡ EverValue.Ref n → IsMade e.made n
+Made e x = (n : Name) → names x ≡ Some n → IsMade e.made n
 
 module _ (z : Arena) (e : Ever) (h : IsBounded z e) where
   register : (g d : ℕ) (x : EverValue) → g < z.layout.goroutines → d < REGISTERS → Made e x → IsBounded z (with_register e g d x)
   register g d x lg ld made = record { registers = λ k c n. by k c n (eqb k g && eqb c d) refl; globals = h.globals; fields = h.fields; none = h.none } where
-    by : (k c : ℕ) (n : Name) (b : Bool) → (eqb k g && eqb c d) ≡ b → cond b x (e.register k c) ≡ EverValue.Ref n → (k < z.layout.goroutines) × (c < REGISTERS) × IsMade e.made n
+    by : (k c : ℕ) (n : Name) (b : Bool) → (eqb k g && eqb c d) ≡ b → names (cond b x (e.register k c)) ≡ Some n → (k < z.layout.goroutines) × (c < REGISTERS) × IsMade e.made n
     by k c n true t is =
         let w = both (eqb k g) (eqb c d) t in
         (subst (λ (i : ℕ). i < z.layout.goroutines) (sym (eqb-true k g w.0)) lg, subst (λ (i : ℕ). i < REGISTERS) (sym (eqb-true c d w.1)) ld, made n is)
@@ -36,7 +37,7 @@ module _ (z : Arena) (e : Ever) (h : IsBounded z e) where
 
   field : (m : Name) (k : ℕ) (x : EverValue) → k < size_for z.shapes e.type_of m → Made e x → IsBounded z (with_field e m k x)
   field m k x within made = record { registers = h.registers; globals = h.globals; fields = λ o c n. by o c n (same_name o m && eqb c k) refl; none = h.none } where
-    by : (o : Name) (c : ℕ) (n : Name) (b : Bool) → (same_name o m && eqb c k) ≡ b → cond b x (e.field o c) ≡ EverValue.Ref n → (c < size_for z.shapes e.type_of o) × IsMade e.made n
+    by : (o : Name) (c : ℕ) (n : Name) (b : Bool) → (same_name o m && eqb c k) ≡ b → names (cond b x (e.field o c)) ≡ Some n → (c < size_for z.shapes e.type_of o) × IsMade e.made n
     by o c n true t is =
         let w = both (same_name o m) (eqb c k) t in
         let here : c < size_for z.shapes e.type_of m = subst (λ (i : ℕ). i < size_for z.shapes e.type_of m) (sym (eqb-true c k w.1)) within in
@@ -45,7 +46,7 @@ module _ (z : Arena) (e : Ever) (h : IsBounded z e) where
 
   global : (k : ℕ) (x : EverValue) → k < z.layout.globals → Made e x → IsBounded z (with_global e k x)
   global k x within made = record { registers = h.registers; globals = λ c n. by c n (eqb c k) refl; fields = h.fields; none = h.none } where
-    by : (c : ℕ) (n : Name) (b : Bool) → eqb c k ≡ b → cond b x (e.global c) ≡ EverValue.Ref n → (c < z.layout.globals) × IsMade e.made n
+    by : (c : ℕ) (n : Name) (b : Bool) → eqb c k ≡ b → names (cond b x (e.global c)) ≡ Some n → (c < z.layout.globals) × IsMade e.made n
     by c n true t is = (subst (λ (i : ℕ). i < z.layout.globals) (sym (eqb-true c k t)) within, made n is)
     by c n false t is = h.globals c n is
 
@@ -59,7 +60,7 @@ module _ (z : Arena) (e : Ever) (h : IsBounded z e) where
     fields = λ m k n. by m k n (same_name m (next_name e g));
     none = λ k l. beyond k l (eqb_tells k g);
   } where
-    by : (m : Name) (k : ℕ) (n : Name) (b : Bool) → cond b (first_value (is_pointer (shape_at z.shapes t) k)) (e.field m k) ≡ EverValue.Ref n → (k < field_count (shape_at z.shapes (cond b t (e.type_of m)))) × (n.k < cond (eqb n.g g) (e.made g + 1) (e.made n.g))
+    by : (m : Name) (k : ℕ) (n : Name) (b : Bool) → names (cond b (first_value (is_pointer (shape_at z.shapes t) k)) (e.field m k)) ≡ Some n → (k < field_count (shape_at z.shapes (cond b t (e.type_of m)))) × (n.k < cond (eqb n.g g) (e.made g + 1) (e.made n.g))
     by m k n true is = absurd (first-plain (is_pointer (shape_at z.shapes t) k) n is)
     by m k n false is = let w = h.fields m k n is in (w.0, more-made e.made g n w.1)
 
@@ -71,7 +72,9 @@ module _ (z : Arena) (e : Ever) (h : IsBounded z e) where
 
 module _ (z : Arena) (e : Ever) (h : IsBounded z e) where
   takes : (g d : ℕ) (x : EverValue) → g < z.layout.goroutines → d < REGISTERS → Made e x → IsBounded z (takes_answer e g d (answer_of_value x))
-  takes g d x lg ld made = grind (arith, register)
+  takes g d EverValue.Nil lg ld made = register z e h g d EverValue.Nil lg ld made
+  takes g d (EverValue.Int i) lg ld made = register z e h g d (EverValue.Int i) lg ld made
+  takes g d (EverValue.Ref n) lg ld made = register z e h g d (EverValue.Ref n) lg ld made
 
   loads : (g d : ℕ) (x : EverValue) (k : ℕ) → g < z.layout.goroutines → d < REGISTERS → IsBounded z (takes_answer e g d (load_answer z.shapes e x k))
   loads g d EverValue.Nil k lg ld = h
@@ -98,7 +101,7 @@ module _ (z : Arena) (e : Ever) (h : IsBounded z e) where
 
   news : (g d t : ℕ) → g < z.layout.goroutines → d < REGISTERS → IsBounded z (with_register (with_object z.shapes e g t) g d (EverValue.Ref (next_name e g)))
   news g d t lg ld = register z (with_object z.shapes e g t) (object z e h g t lg) g d (EverValue.Ref (next_name e g)) lg ld (λ n is. here n is) where
-    here : (n : Name) → EverValue.Ref (next_name e g) ≡ EverValue.Ref n → n.k < cond (eqb n.g g) (e.made g + 1) (e.made n.g)
+    here : (n : Name) → Some (next_name e g) ≡ Some n → n.k < cond (eqb n.g g) (e.made g + 1) (e.made n.g)
     here n is =
         let same : next_name e g ≡ n = cc in
         subst (λ (m : Name). m.k < cond (eqb m.g g) (e.made g + 1) (e.made m.g)) same (subst (λ (b : Bool). e.made g < cond b (e.made g + 1) (e.made g)) (sym (eq-eqb g g refl)) (omega arith))

@@ -1,9 +1,10 @@
 -- What is marked at the end of a cycle.
-use Rattle.std.proofs.Common.{◌≡◌, ◌≢◌, ℕ, ◌+◌, ◌/◌, ◌%◌, ◌<◌, Bool, true, false, eqb, ltb, List, [], length, inl, inr, refl, sym, ap, subst, arith, ◌∙◌}
+use Rattle.std.proofs.Common.{◌≡◌, ◌≢◌, ℕ, ◌+◌, ◌/◌, ◌%◌, ◌<◌, Bool, true, false, eqb, ltb, List, [], length, Some, inl, inr, refl, sym, ap, subst, arith, ◌∙◌}
 use Rattle.std.specs.Int.{bit_at}
 use Rattle.std.proofs.lemmas.Bool.{ltb-true, ltb-false}
 use Rattle.std.proofs.lemmas.List.{get_or_past}
-use Rattle.gh_cycle.proofs.Vocabulary.{alloc_words, bit_at-zero, cases_Bool, Cell, Cycle, EverValue, FitsShape, from_field, from_global, from_register, Good, Heap, Holds, is_pointer, IsBounded, IsMarked, IsPointer, mark_words, Marking, MarkingGood, Name, no_shape, path_field, path_global, path_register, Place, Placing, points, Reach, Reached, reference_of, RegistersFit, row_bit, Shape, shape_at, ShapesFit, TheMarkedStand, TheReachedAreMarkedBeside, TheReachedWereMade, view, Words}
+use Rattle.gh_cycle.proofs.Vocabulary.{alloc_words, bit_at-zero, cases_Bool, Cell, Cycle, EverValue, FitsShape, from_field, from_global, from_register, Good, Heap, Holds, is_pointer, IsBounded, IsMarked, IsPointer, mark_words, Marking, MarkingGood, Name, names, no_shape, path_field, path_global, path_register, Place, Placing, points, Reach, Reached, reference_to, RegistersFit, row_bit, Shape, shape_at, ShapesFit, TheMarkedStand, TheReachedAreMarkedBeside, TheReachedWereMade, view, Words}
+use Rattle.gh_cycle.proofs.Beginning.{reference-told}
 use Rattle.gh_cycle.proofs.Said.{IsSaid, said-beside}
 
 -- a bit of no word is not set
@@ -29,8 +30,10 @@ pointing-scans shapes fit t k pointer = by (ltb t (length shapes)) refl where
 -- At the end.
 
 -- a word that holds a reference
-holds-name : (place : Place) (made : ℕ → ℕ) (p : Bool) (v : EverValue) (n : Name) (word : ℕ) → v ≡ EverValue.Ref n → Holds place made p v word → (p ≡ true) × (word ≡ place n + 1)
-holds-name place made p v n word is holds = let w = subst (λ (x : EverValue). Holds place made p x word) is holds in (w.0, w.1)
+holds-name : (place : Place) (made : ℕ → ℕ) (p : Bool) (v : EverValue) (n : Name) (word : ℕ) → names v ≡ Some n → Holds place made p v word → (p ≡ true) × (word ≡ reference_to place n)
+holds-name place made p EverValue.Nil n word is holds = absurd (cc)
+holds-name place made p (EverValue.Int i) n word is holds = absurd (cc)
+holds-name place made p (EverValue.Ref m) n word is holds = let same : m ≡ n = cc in (holds.0, holds.1 ∙ ap (reference_to place) same)
 
 module _ (z : Cycle) (h : Heap) (s : Marking) (g : Good z.arena (view h)) (fit : ShapesFit z.arena.shapes) (b : IsBounded z.arena h.ever) (same : s.words ≡ h.words) (said : (n : Name) → Reach h.ever n → IsSaid z.arena h s n) (registers : RegistersFit z.arena h s) (made : TheReachedWereMade) where
   -- a path of names is a path of words
@@ -41,7 +44,7 @@ module _ (z : Cycle) (h : Heap) (s : Marking) (g : Good z.arena (view h)) (fit :
       path_global k (h.place n) within (ap (λ (u : Words). u (Cell.Global k)) same ∙ w.1)
   path n (from_register j d n' runs is) =
       let w = b.registers j d n is in
-      path_register j d (h.place n) w.0 w.1 (registers j d w.0 w.1 runs ∙ ap (reference_of h.place) is)
+      path_register j d (h.place n) w.0 w.1 (registers j d w.0 w.1 runs ∙ reference-told h.place (h.ever.register j d) n is)
   path n (from_field m k n' r is) =
       let within = (b.fields m k n is).0 in
       let w = holds-name h.place h.ever.made (points z.arena.shapes h.ever.type_of m k) (h.ever.field m k) n (h.words (Cell.Field (h.place m + k))) is (g.fields m k (made z.arena h.ever b m r) (g.reached m r) within) in

@@ -1,6 +1,6 @@
 -- What a script reaches is decided. A set of reached names grows by one where a global, a register or a field of a name in it names another; and since names are finitely many, it is closed in the end.
-use Rattle.std.proofs.Common.{◌≡◌, ℕ, zero, suc, ◌<◌, ◌≤◌, ◌⊎◌, Bool, true, false, cond, refl, sym, ap, subst, arith, inl, inr, ◌∙◌}
-use Rattle.gh_cycle.proofs.Vocabulary.{Arena, Decided, Ever, EverValue, from_field, from_global, from_register, IsBounded, IsMade, IsReachedAt, Name, nat_tests, Place, PlacesAreDecided, Reach, ReachIsDecided, REGISTERS, same_name, size_for, TheReachedWereMade}
+use Rattle.std.proofs.Common.{◌≡◌, ℕ, zero, suc, ◌<◌, ◌≤◌, ◌⊎◌, Bool, true, false, cond, Some, refl, sym, ap, subst, arith, inl, inr, ◌∙◌}
+use Rattle.gh_cycle.proofs.Vocabulary.{Arena, Decided, Ever, EverValue, from_field, from_global, from_register, IsBounded, IsMade, IsReached, IsReachedAt, Name, names, nat_tests, Place, PlacesAreDecided, Reach, ReachIsDecided, REGISTERS, same_name, size_for, TheReachedWereMade}
 use Rattle.gh_cycle.proofs.Searching.{decided-of, search, total, total-least, total-less}
 
 pub reached-made : TheReachedWereMade
@@ -39,7 +39,7 @@ module _ (z : Arena) (e : Ever) (h : IsBounded z e) where
 
   -- what the value names is in the set
   abbrev IsIn : Set → EverValue → Type 0
-  IsIn s v = (n : Name) → v ≡ EverValue.Ref n → s n ≡ true
+  IsIn s v = (n : Name) → names v ≡ Some n → s n ≡ true
 
   record Closed (s : Set) : Type 0 where
     globals : (k : ℕ) → IsIn s (e.global k)
@@ -55,7 +55,7 @@ module _ (z : Arena) (e : Ever) (h : IsBounded z e) where
   abbrev Further : Set → Type 0
   Further s = (n : Name) × Reach e n × (s n ≡ false)
 
-  look : (s : Set) (v : EverValue) → ((n : Name) → v ≡ EverValue.Ref n → Reach e n) → Further s ⊎ IsIn s v
+  look : (s : Set) (v : EverValue) → IsReached e v → Further s ⊎ IsIn s v
   look s EverValue.Nil r = inr (λ n is. absurd (cc))
   look s (EverValue.Int i) r = inr (λ n is. absurd (cc))
   look s (EverValue.Ref m) r = by (s m) refl where

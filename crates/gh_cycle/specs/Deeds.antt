@@ -1,6 +1,6 @@
 -- While a cycle is marked: what a step of a processor does, whichever move over the heap it is, and what marking asks of it. A routine's law tells which words it writes and how the heap that never frees changes, and not by which move.
-use Rattle.std.specs.Prelude.{◌≡◌, ℕ, ◌+◌, ◌/◌, ◌%◌, ◌^◌, ◌<◌, true, false, None}
-use Rattle.gh_cycle.specs.Vocabulary.{Arena, Ask, Cell, Cycle, END, Ever, EverValue, field_words, global_words, Good, Heap, IsClean, IsMarked, mark_words, Marking, MarkingGood, Name, next_name, Placing, points, REGISTERS, shape_for, size_for, view, with_end, with_field, with_global, with_object, with_register}
+use Rattle.std.specs.Prelude.{◌≡◌, ℕ, ◌+◌, ◌/◌, ◌%◌, ◌^◌, ◌<◌, true, false, Some, None}
+use Rattle.gh_cycle.specs.Vocabulary.{Arena, Ask, Cell, Cycle, END, Ever, EverValue, field_words, global_words, Good, Heap, IsClean, IsMarked, mark_words, Marking, MarkingGood, Name, names, next_name, Placing, points, REGISTERS, shape_for, size_for, view, with_end, with_field, with_global, with_object, with_register}
 use Rattle.gh_base.specs.Steps.{effect}
 use Rattle.gh_heap.specs.Moves as heap
 use Rattle.gh_marks.specs.Moves as marks
@@ -39,7 +39,7 @@ pub data TakesFrom (z : Arena) (e : Ever) (g : ℕ) : (value : EverValue) → Ty
   from_nil : TakesFrom z e g EverValue.Nil
   from_number : (i : ℕ) → TakesFrom z e g (EverValue.Int i)
   from_register : (r : ℕ) → r < REGISTERS → TakesFrom z e g (e.register g r)
-  from_field : (r : ℕ) (n : Name) (k : ℕ) → r < REGISTERS → e.register g r ≡ EverValue.Ref n → k < size_for z.shapes e.type_of n → (points z.shapes e.type_of n k ≡ true → (shape_for z.shapes e.type_of n).noscan ≡ false) → TakesFrom z e g (e.field n k)
+  from_field : (r : ℕ) (n : Name) (k : ℕ) → r < REGISTERS → names (e.register g r) ≡ Some n → k < size_for z.shapes e.type_of n → (points z.shapes e.type_of n k ≡ true → (shape_for z.shapes e.type_of n).noscan ≡ false) → TakesFrom z e g (e.field n k)
   from_global : (k : ℕ) → k < z.layout.globals → TakesFrom z e g (e.global k)
 
 -- What marking asks of a step of this seat that does so. It writes no word that marking reads, save by the deed: the end of a goroutine is its stack's word, an object is its alloc bit, set where its mark was set before, and a pointer is written behind the write barrier. A register takes what its goroutine can see.

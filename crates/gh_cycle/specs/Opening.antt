@@ -1,6 +1,6 @@
 -- Where a cycle begins: the state of the heap, and that of marking as it is switched on.
-use Rattle.std.specs.Prelude.{◌≡◌, ℕ, ◌+◌, ◌<◌, ◌≤◌, ◌⊎◌, ◌↔◌, true, if◌then◌else◌}
-use Rattle.gh_cycle.specs.Vocabulary.{Arena, Cell, Cycle, END, EverValue, Good, Heap, mark_words, Marking, Name, Opens, Place, points, Reach, row_bit, shape_for, size_for, view}
+use Rattle.std.specs.Prelude.{◌≡◌, ℕ, ◌<◌, ◌≤◌, ◌⊎◌, ◌↔◌, true, if◌then◌else◌}
+use Rattle.gh_cycle.specs.Vocabulary.{Arena, Cell, Cycle, END, EverValue, Good, Heap, mark_words, Marking, Name, Opens, Place, points, Reach, reference_to, row_bit, shape_for, size_for, view}
 use Rattle.gh_base.specs.Cells.{opening_words}
 use Rattle.gh_cycle.specs.Reached.{IsBounded, IsReachedAt}
 
@@ -28,7 +28,7 @@ pub record IsCycleOf (z : Arena) (h : Heap) (s : Marking) : Type 0 where
 
 -- what a value names, as 0 or 1 more than a heap word
 abbrev pub reference_of : Place → EverValue → ℕ
-reference_of place (EverValue.Ref n) = place n + 1
+reference_of place (EverValue.Ref n) = reference_to place n
 reference_of place _ = 0
 
 -- what marking reads of a register: that of a goroutine which has ended names nothing

@@ -1,14 +1,14 @@
 -- What a script reaches, as a test: a heap names finitely many objects, so it is decided.
-use Rattle.std.specs.Prelude.{◌≡◌, ℕ, ◌<◌, ◌≤◌, ◌⊎◌, ◌↔◌, Bool, true}
-use Rattle.gh_cycle.specs.Vocabulary.{answer_of, Arena, Ever, ever_after, EverValue, IsMade, Name, opening_ever, Reach, REGISTERS, Shared, size_for}
+use Rattle.std.specs.Prelude.{◌≡◌, ℕ, ◌<◌, ◌≤◌, ◌⊎◌, ◌↔◌, Bool, true, Some}
+use Rattle.gh_cycle.specs.Vocabulary.{answer_of, Arena, Ever, ever_after, IsMade, Name, names, opening_ever, Reach, REGISTERS, Shared, size_for}
 use Rattle.gh_base.specs.declared.operation.Op.{Op}
 use Rattle.gh_base.specs.declared.value.Answer.{Answer}
 
 -- Each goroutine, register, global and field that names an object is one that the heap has, and the object was made. So there are finitely many to look at.
 pub record IsBounded (z : Arena) (e : Ever) : Type 0 where
-  pub registers : (g d : ℕ) (n : Name) → e.register g d ≡ EverValue.Ref n → (g < z.layout.goroutines) × (d < REGISTERS) × IsMade e.made n
-  pub globals : (k : ℕ) (n : Name) → e.global k ≡ EverValue.Ref n → (k < z.layout.globals) × IsMade e.made n
-  pub fields : (m : Name) (k : ℕ) (n : Name) → e.field m k ≡ EverValue.Ref n → (k < size_for z.shapes e.type_of m) × IsMade e.made n
+  pub registers : (g d : ℕ) (n : Name) → names (e.register g d) ≡ Some n → (g < z.layout.goroutines) × (d < REGISTERS) × IsMade e.made n
+  pub globals : (k : ℕ) (n : Name) → names (e.global k) ≡ Some n → (k < z.layout.globals) × IsMade e.made n
+  pub fields : (m : Name) (k : ℕ) (n : Name) → names (e.field m k) ≡ Some n → (k < size_for z.shapes e.type_of m) × IsMade e.made n
   -- there is no goroutine beyond these that has made one
   pub none : (g : ℕ) → z.layout.goroutines ≤ g → e.made g ≡ 0
 

@@ -6,10 +6,10 @@ pub use Rattle.gh_base.specs.declared.cell.Cell.{Cell}
 pub use Rattle.gh_base.specs.declared.limits.TheConstants.{REGISTERS}
 pub use Rattle.gh_base.specs.declared.pack.TheConstants.{END}
 pub use Rattle.gh_base.specs.declared.value.Name.{Name}
-pub use Rattle.gh_heap.specs.Objects.{IsMade, Place, Placed, points, shape_for, size_for}
+pub use Rattle.gh_heap.specs.Objects.{IsMade, Place, Placed, points, reference_to, shape_for, size_for}
 pub use Rattle.gh_heap.specs.Rights.{Arena, Claims, Good, Shared, Shared as Heap, View, view}
 pub use Rattle.gh_marks.specs.Colours.{Cycle, IsClean, IsMarked, Placing, Shared as Marking}
 pub use Rattle.gh_marks.specs.Ends.{EachReachedIsMarked, Opens}
 pub use Rattle.gh_marks.specs.Good.{Good as MarkingGood}
-pub use Rattle.gh_model.specs.Ever.{answer_of, Ever, ever_after, next_name, opening_ever, Reach, with_end, with_field, with_global, with_object, with_register}
+pub use Rattle.gh_model.specs.Ever.{answer_of, Ever, ever_after, names, next_name, opening_ever, Reach, with_end, with_field, with_global, with_object, with_register}
 pub use Rattle.gh_model.specs.declared.EverValue.{EverValue}

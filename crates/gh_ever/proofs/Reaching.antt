@@ -1,7 +1,8 @@
 -- What is marked, and what a heap reaches.
-use Rattle.std.proofs.Common.{◌≡◌, ℕ, zero, suc, ◌<◌, ◌≤◌, Bool, true, false, cond, not, List, [], ◌∷◌, length, get_or, Option, Some, refl, sym, ◌∙◌, ap, subst, arith, inl, inr, ◌⊎◌}
+use Rattle.std.proofs.Common.{◌≡◌, ℕ, zero, suc, ◌<◌, ◌≤◌, Bool, true, false, cond, not, List, [], ◌∷◌, length, get_or, Option, Some, None, refl, sym, ◌∙◌, ap, subst, arith, inl, inr, ◌⊎◌}
 use Rattle.std.proofs.lemmas.Bool.{true≢false}
-use Rattle.gh_ever.proofs.Vocabulary.{All, AreComplete, Cell, ever_of, EverValue, Field, from_field, from_global, from_register, Global, IsDistinct, IsFollowed, IsSome, IsSoundMarks, kind_of, leads, Lists, marked, Name, Object, Place, Reach, Register, same_name, same_place, same_Some, Sound, stored_value, unstored, unwrap_or, with_mark}
+use Rattle.gh_ever.proofs.Vocabulary.{All, AreComplete, Cell, ever_of, EverValue, Field, first_value, from_field, from_global, from_register, Global, IsDistinct, IsFollowed, IsSome, IsSoundMarks, kind_of, leads, Lists, marked, Name, names, Object, Place, Reach, Register, same_name, same_place, same_Some, Sound, stored_value, unstored, unwrap_or, with_mark}
+use Rattle.gh_base.specs.Shapes.{is_pointer, shape_at}
 use Rattle.gh_ever.proofs.Places.{place_tells, place_itself}
 
 -- The marks after one more.
@@ -60,28 +61,35 @@ not_false : (b : Bool) → not b ≡ true → b ≡ false
 not_false b h = grind arith
 
 -- what a place leads to is reachable
-pub leads_reach : (v : Lists) (ms : List Bool) (p : Place) (n : Name) → IsSoundMarks v ms → stored_value v.cells p ≡ Some (EverValue.Ref n) → leads v ms p ≡ true → Reach (ever_of v) n
+pub leads_reach : (v : Lists) (ms : List Bool) (p : Place) (x : EverValue) (n : Name) → IsSoundMarks v ms → stored_value v.cells p ≡ Some x → names x ≡ Some n → leads v ms p ≡ true → Reach (ever_of v) n
 unfolding ever_of
-leads_reach v ms (Global k) n s h l = from_global k n (ap (λ (o : Option EverValue). unwrap_or o EverValue.Nil) h)
-leads_reach v ms (Register g d) n s h l = from_register g d n (not_false (get_or v.ended g false) l) (ap (λ (o : Option EverValue). unwrap_or o EverValue.Nil) h)
-leads_reach v ms (Field m k) n s h l = from_field m k n (s m l) (ap (λ (o : Option EverValue). unwrap_or o (unstored v.shapes (kind_of v.objects m) k)) h)
+leads_reach v ms (Global k) x n s h q l = from_global k n (ap (λ (o : Option EverValue). names (unwrap_or o EverValue.Nil)) h ∙ q)
+leads_reach v ms (Register g d) x n s h q l = from_register g d n (not_false (get_or v.ended g false) l) (ap (λ (o : Option EverValue). names (unwrap_or o EverValue.Nil)) h ∙ q)
+leads_reach v ms (Field m k) x n s h q l = from_field m k n (s m l) (ap (λ (o : Option EverValue). names (unwrap_or o (unstored v.shapes (kind_of v.objects m) k))) h ∙ q)
 
-unstored_no_name : (v : Lists) (o : Option ℕ) (k : ℕ) (n : Name) → unstored v.shapes o k ≡ EverValue.Ref n → ⊥
-unstored_no_name v o k n h = grind arith
+first_no_name : (pointer : Bool) (n : Name) → names (first_value pointer) ≡ Some n → ⊥
+first_no_name true n h = absurd (cc)
+first_no_name false n h = absurd (cc)
 
-stored : (o : Option EverValue) (d : EverValue) (n : Name) → (d ≡ EverValue.Ref n → ⊥) → unwrap_or o d ≡ EverValue.Ref n → o ≡ Some (EverValue.Ref n)
-stored o d n other h = grind arith
+unstored_no_name : (v : Lists) (o : Option ℕ) (k : ℕ) (n : Name) → names (unstored v.shapes o k) ≡ Some n → ⊥
+unstored_no_name v None k n h = absurd (cc)
+unstored_no_name v (Some kind) k n h = first_no_name (is_pointer (shape_at v.shapes kind) k) n h
+
+-- what is named where nothing else is, is stored
+stored : (o : Option EverValue) (d : EverValue) (n : Name) → (names d ≡ Some n → ⊥) → names (unwrap_or o d) ≡ Some n → (x : EverValue) × (o ≡ Some x) × (names x ≡ Some n)
+stored None d n other h = absurd (other h)
+stored (Some x) d n other h = (x, refl, h)
 
 -- where no cell leads further, what a leading place holds is marked
-followed : (v : Lists) (ms : List Bool) (p : Place) (n : Name) → AreComplete v ms → leads v ms p ≡ true → stored_value v.cells p ≡ Some (EverValue.Ref n) → marked v.objects ms n ≡ true
+followed : (v : Lists) (ms : List Bool) (p : Place) (n : Name) → AreComplete v ms → leads v ms p ≡ true → (x : EverValue) × (stored_value v.cells p ≡ Some x) × (names x ≡ Some n) → marked v.objects ms n ≡ true
 followed v ms p n all l h =
-    let found = held_cell v.cells p (EverValue.Ref n) h in
-    let cell : Cell = record { place = p; value = EverValue.Ref n } in
+    let found = held_cell v.cells p h.0 h.1 in
+    let cell : Cell = record { place = p; value = h.0 } in
     let here : IsFollowed v ms cell = subst (λ (c : Cell). IsFollowed v ms c) (found.2 cell) (all found.0 cell found.1) in
-    here l n refl
+    here l n h.2
 
-nil_no_name : (n : Name) → EverValue.Nil ≡ EverValue.Ref n → ⊥
-nil_no_name n h = cc
+nil_no_name : (n : Name) → names EverValue.Nil ≡ Some n → ⊥
+nil_no_name n h = absurd (cc)
 
 -- and so all that is reachable is marked
 pub reach_marked : (v : Lists) (ms : List Bool) → AreComplete v ms → (n : Name) → Reach (ever_of v) n → marked v.objects ms n ≡ true
@@ -100,14 +108,14 @@ sound_with_mark v ms n s r m h = elim (marked_before v.objects ms n m h) [
 
 -- what a cell leads to is marked, and stays sound
 pub followed_sound : (v w : Lists) (ms new : List Bool) (c : Cell) (n : Name) → w ≡ v → IsSoundMarks v ms → stored_value v.cells c.place ≡ Some c.value → c.value ≡ EverValue.Ref n → leads v ms c.place ≡ true → new ≡ with_mark w.objects ms n → IsSoundMarks v new
-followed_sound v w ms new c n e s h i l f = grind (arith, leads_reach, sound_with_mark)
-
-same_ref : (n m : Name) → EverValue.Ref n ≡ EverValue.Ref m → n ≡ m
-same_ref n m h = cc
+followed_sound v w ms new c n e s h i l f =
+    let r : Reach (ever_of v) n = leads_reach v ms c.place c.value n s h (ap names i) l in
+    let is : new ≡ with_mark v.objects ms n = f ∙ ap (λ (x : Lists). with_mark x.objects ms n) e in
+    subst (λ (marks : List Bool). IsSoundMarks v marks) (sym is) (sound_with_mark v ms n s r)
 
 pub followed_marked : (v w : Lists) (ms new : List Bool) (c : Cell) (n : Name) → w ≡ v → Sound w → length w.objects ≤ length ms → stored_value v.cells c.place ≡ Some c.value → c.value ≡ EverValue.Ref n → new ≡ with_mark w.objects ms n → IsFollowed v new c
 followed_marked v w ms new c n e s len h i f l m j =
     let there : stored_value w.cells c.place ≡ Some (EverValue.Ref n) = ap (λ (x : Lists). stored_value x.cells c.place) e ∙ h ∙ ap Some i in
     let at : marked w.objects (with_mark w.objects ms n) n ≡ true = marked_itself w.objects ms n len (s.values c.place (EverValue.Ref n) there) in
     let here : marked v.objects new n ≡ true = ap (λ (x : List Bool). marked v.objects x n) f ∙ subst (λ (x : Lists). marked x.objects (with_mark w.objects ms n) n ≡ true) e at in
-    subst (λ (x : Name). marked v.objects new x ≡ true) (same_ref n m (sym i ∙ j)) here
+    subst (λ (x : Name). marked v.objects new x ≡ true) (same_Some n m (sym (ap names i) ∙ j)) here

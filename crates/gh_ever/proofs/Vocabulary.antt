@@ -15,7 +15,7 @@ unfoldable pub use Rattle.gh_ever.specs.Lists.{ever_of}
 pub use Rattle.gh_ever.specs.Marks.{AreComplete, IsFollowed, IsSoundMarks, leads, marked, unmarked, with_mark}
 pub use Rattle.gh_ever.specs.Objects.{IsInKnown, IsKnown, kind_of}
 pub use Rattle.gh_ever.specs.Sound.{AreSized, Sound}
-pub use Rattle.gh_ever.specs.Vocabulary.{Cell, Ever, EverValue, Field, first_value, get, Global, HashMap, Name, Object, Place, Reach, Register, same_name, spare, with_field, with_global, with_register}
+pub use Rattle.gh_ever.specs.Vocabulary.{Cell, Ever, EverValue, Field, first_value, get, Global, HashMap, Name, names, Object, Place, Reach, Register, same_name, spare, with_field, with_global, with_register}
 pub use Rattle.gh_ever.specs.declared.kept.Kept.TheInside.{Inside}
 pub use Rattle.gh_model.specs.Ever.{from_field, from_global, from_register, next_name, opening_ever, with_end, with_object}
 pub use Rattle.gh_model.specs.declared.EverValue.TheVariants.{Nil, Ref}

@@ -1,7 +1,6 @@
 -- Marks, one for each object, of what was found reachable.
-use Rattle.std.specs.Prelude.{◌≡◌, ℕ, Bool, true, false, not, if◌then◌else◌, List, [], ◌∷◌, All, count_by, slice_index_or}
-use Rattle.gh_ever.specs.Vocabulary.{Cell, Field, Global, Name, Object, Place, Reach, Register, same_name}
-use Rattle.gh_model.specs.declared.EverValue.TheVariants.{Ref}
+use Rattle.std.specs.Prelude.{◌≡◌, ℕ, Bool, true, false, not, if◌then◌else◌, List, [], ◌∷◌, All, count_by, slice_index_or, Some}
+use Rattle.gh_ever.specs.Vocabulary.{Cell, Field, Global, Name, names, Object, Place, Reach, Register, same_name}
 use Rattle.gh_ever.specs.Lists.{Lists, ever_of}
 
 -- the object of this name is marked
@@ -32,7 +31,7 @@ leads lists marks (Field n k) = marked lists.objects marks n
 
 -- what the cell leads to is marked
 abbrev pub IsFollowed : Lists → List Bool → Cell → Type 0
-IsFollowed lists marks cell = leads lists marks cell.place ≡ true → (n : Name) → cell.value ≡ Ref n → marked lists.objects marks n ≡ true
+IsFollowed lists marks cell = leads lists marks cell.place ≡ true → (n : Name) → names cell.value ≡ Some n → marked lists.objects marks n ≡ true
 
 -- no cell leads further
 abbrev pub AreComplete : Lists → List Bool → Type 0

@@ -2,7 +2,7 @@
 use Rattle.std.proofs.Common.{◌≡◌, ◌≢◌, ℕ, ◌+◌, ◌==◌, ◌&&◌, eqb, eq-eqb, Bool, true, false, cond, nat_lt, if◌then◌else◌, List, [], ◌∷◌, ◌++◌, Option, Some, None, refl, sym, ap, subst, ◌∙◌, arith}
 use Rattle.std.proofs.lemmas.Bool.{eqb-false, eqb-true}
 use Rattle.std.proofs.lemmas.List.{append_assoc}
-use Rattle.gh_explained.proofs.Vocabulary.{Act, acted, Answer, Entry, Ever, ever_after, EverValue, IsMade, Layout, Name, nat_tests, Op, Shape}
+use Rattle.gh_explained.proofs.Vocabulary.{Act, acted, Answer, Entry, Ever, ever_after, EverValue, IsMade, Layout, Name, names, nat_tests, Op, Shape}
 use Rattle.gh_base.specs.Shapes.{is_pointer, shape_at}
 use Rattle.gh_base.specs.declared.value.Fault.{Fault}
 use Rattle.gh_explained.specs.Stores.{act_of, ever, EveryLoadSeesStores, HidesAlong, IsAlone, IsAloneAlong, Leaves, LeavesAlong, Loads, Makes, NoneStores, Stores}
@@ -25,6 +25,12 @@ same_is n m e =
     let one = eqb-true n.g m.g both.0 in
     let two = eqb-true n.k m.k both.1 in
     λ i. record { g = one i; k = two i }
+
+-- a value that names the object is its reference
+is_named : (v : EverValue) (n : Name) → names v ≡ Some n → v ≡ EverValue.Ref n
+is_named EverValue.Nil n is = absurd cc
+is_named (EverValue.Int i) n is = absurd cc
+is_named (EverValue.Ref m) n is = let same : m ≡ n = cc in ap (λ (o : Name). EverValue.Ref o) same
 
 -- one that was made is not the next
 not_next : (e : Ever) (g : ℕ) (n : Name) → IsMade e.made n → same_name n (next_name e g) ≡ false
@@ -60,8 +66,8 @@ module _ (shapes : List Shape) (n : Name) (k : ℕ) (v : EverValue) (t : ℕ) wh
       go false q = h.field
       go true q = let both = both_are (same_name n m) (k == j) q in absurd (apart (sym (eqb-true k j both.1)) (sym (same_is n m both.0)))
 
-    by_store : (base : EverValue) (j : ℕ) (x : EverValue) (a : Answer) → (j ≡ k → base ≢ EverValue.Ref n) → HoldsIt (stores_value e base j x a)
-    by_store (EverValue.Ref m) j x Answer.Done apart = by_field m j x (λ same is. apart same (ap EverValue.Ref is))
+    by_store : (base : EverValue) (j : ℕ) (x : EverValue) (a : Answer) → (j ≡ k → names base ≢ Some n) → HoldsIt (stores_value e base j x a)
+    by_store (EverValue.Ref m) j x Answer.Done apart = by_field m j x (λ same is. apart same (ap (λ (o : Name). Some o) is))
     by_store base j x a apart = grind (arith, h)
 
     by_global : (c : ℕ) (x : EverValue) (a : Answer) → HoldsIt (sets_global e c x a)
@@ -69,7 +75,7 @@ module _ (shapes : List Shape) (n : Name) (k : ℕ) (v : EverValue) (t : ℕ) wh
 
     -- a store is on another field
     abbrev Spares : Op → Type 0
-    Spares (Op.Store g b j r) = j ≡ k → e.register g b ≢ EverValue.Ref n
+    Spares (Op.Store g b j r) = j ≡ k → names (e.register g b) ≢ Some n
     Spares o = Unit {0}
 
     after : (o : Op) (a : Answer) → Spares o → HoldsIt (ever_after shapes e o a)
@@ -94,15 +100,15 @@ module _ (shapes : List Shape) (n : Name) (k : ℕ) (v : EverValue) (t : ℕ) wh
 -- The object was made; goroutine g alone has its name, in registers.
 record IsHidden (shapes : List Shape) (g : ℕ) (n : Name) (e : Ever) : Type 0 where
   made : IsMade e.made n
-  fields : (m : Name) (k : ℕ) → e.field m k ≢ EverValue.Ref n
-  globals : (c : ℕ) → e.global c ≢ EverValue.Ref n
-  others : (h d : ℕ) → h ≢ g → e.register h d ≢ EverValue.Ref n
+  fields : (m : Name) (k : ℕ) → names (e.field m k) ≢ Some n
+  globals : (c : ℕ) → names (e.global c) ≢ Some n
+  others : (h d : ℕ) → h ≢ g → names (e.register h d) ≢ Some n
 
-first_names_none : (pointer : Bool) (n : Name) → first_value pointer ≢ EverValue.Ref n
+first_names_none : (pointer : Bool) (n : Name) → names (first_value pointer) ≢ Some n
 first_names_none true n e = absurd cc
 first_names_none false n e = absurd cc
 
-module _ (shapes : List Shape) (g : ℕ) (e : Ever) (no_register : (h d : ℕ) → e.register h d ≢ EverValue.Ref (next_name e g)) (no_field : (m : Name) (k : ℕ) → e.field m k ≢ EverValue.Ref (next_name e g)) (no_global : (c : ℕ) → e.global c ≢ EverValue.Ref (next_name e g)) where
+module _ (shapes : List Shape) (g : ℕ) (e : Ever) (no_register : (h d : ℕ) → names (e.register h d) ≢ Some (next_name e g)) (no_field : (m : Name) (k : ℕ) → names (e.field m k) ≢ Some (next_name e g)) (no_global : (c : ℕ) → names (e.global c) ≢ Some (next_name e g)) where
   new_hidden : (t d : ℕ) → IsHidden shapes g (next_name e g) (with_register (with_object shapes e g t) g d (EverValue.Ref (next_name e g)))
   new_hidden t d = record {
     made = rw (eq-eqb g g refl) (omega arith);
@@ -110,19 +116,19 @@ module _ (shapes : List Shape) (g : ℕ) (e : Ever) (no_register : (h d : ℕ) �
     globals = no_global;
     others = λ h c apart. other h c apart ((h == g) && (c == d)) refl;
   } where
-    go : (m : Name) (k : ℕ) (b : Bool) → (cond b (first_value (is_pointer (shape_at shapes t) k)) (e.field m k)) ≢ EverValue.Ref (next_name e g)
+    go : (m : Name) (k : ℕ) (b : Bool) → names (cond b (first_value (is_pointer (shape_at shapes t) k)) (e.field m k)) ≢ Some (next_name e g)
     go m k true = first_names_none (is_pointer (shape_at shapes t) k) (next_name e g)
     go m k false = no_field m k
 
-    other : (h c : ℕ) → h ≢ g → (b : Bool) → ((h == g) && (c == d)) ≡ b → (cond b (EverValue.Ref (next_name e g)) (e.register h c)) ≢ EverValue.Ref (next_name e g)
+    other : (h c : ℕ) → h ≢ g → (b : Bool) → ((h == g) && (c == d)) ≡ b → names (cond b (EverValue.Ref (next_name e g)) (e.register h c)) ≢ Some (next_name e g)
     other h c apart true q = absurd (apart (eqb-true h g (both_are (h == g) (c == d) q).0))
     other h c apart false q = no_register h c
 
 module _ (shapes : List Shape) (g : ℕ) (n : Name) (e : Ever) (h : IsHidden shapes g n e) where
   -- a register takes what is not the name, or is one of g
-  hidden_register : (i d : ℕ) (x : EverValue) → (i ≢ g → x ≢ EverValue.Ref n) → IsHidden shapes g n (with_register e i d x)
+  hidden_register : (i d : ℕ) (x : EverValue) → (i ≢ g → names x ≢ Some n) → IsHidden shapes g n (with_register e i d x)
   hidden_register i d x apart = record { made = h.made; fields = h.fields; globals = h.globals; others = λ j c other. go j c other ((j == i) && (c == d)) refl } where
-    go : (j c : ℕ) → j ≢ g → (b : Bool) → ((j == i) && (c == d)) ≡ b → (cond b x (e.register j c)) ≢ EverValue.Ref n
+    go : (j c : ℕ) → j ≢ g → (b : Bool) → ((j == i) && (c == d)) ≡ b → names (cond b x (e.register j c)) ≢ Some n
     go j c other true q = apart (subst (λ (m : ℕ). m ≢ g) (eqb-true j i (both_are (j == i) (c == d) q).0) other)
     go j c other false q = h.others j c other
 
@@ -133,19 +139,19 @@ module _ (shapes : List Shape) (g : ℕ) (n : Name) (e : Ever) (h : IsHidden sha
     globals = h.globals;
     others = λ j c other. reg j c other ((j == i) && (c == d));
   } where
-    not_it : EverValue.Ref (next_name e i) ≢ EverValue.Ref n
+    not_it : names (EverValue.Ref (next_name e i)) ≢ Some n
     not_it is = let same : next_name e i ≡ n = cc in let never : true ≡ false = sym (same_self n) ∙ ap (same_name n) (sym same) ∙ not_next e i n h.made in absurd cc
 
-    go : (m : Name) (k : ℕ) (b : Bool) → (cond b (first_value (is_pointer (shape_at shapes t) k)) (e.field m k)) ≢ EverValue.Ref n
+    go : (m : Name) (k : ℕ) (b : Bool) → names (cond b (first_value (is_pointer (shape_at shapes t) k)) (e.field m k)) ≢ Some n
     go m k true = first_names_none (is_pointer (shape_at shapes t) k) n
     go m k false = h.fields m k
 
-    reg : (j c : ℕ) → j ≢ g → (b : Bool) → (cond b (EverValue.Ref (next_name e i)) (e.register j c)) ≢ EverValue.Ref n
+    reg : (j c : ℕ) → j ≢ g → (b : Bool) → names (cond b (EverValue.Ref (next_name e i)) (e.register j c)) ≢ Some n
     reg j c other true = not_it
     reg j c other false = h.others j c other
 
   -- a value that is told does not name it
-  hidden_value : (i d : ℕ) (x : EverValue) → x ≢ EverValue.Ref n → IsHidden shapes g n (takes_answer e i d (answer_of_value x))
+  hidden_value : (i d : ℕ) (x : EverValue) → names x ≢ Some n → IsHidden shapes g n (takes_answer e i d (answer_of_value x))
   hidden_value i d EverValue.Nil not = hidden_register i d EverValue.Nil (λ other. not)
   hidden_value i d (EverValue.Int k) not = hidden_register i d (EverValue.Int k) (λ other. not)
   hidden_value i d (EverValue.Ref m) not = hidden_register i d (EverValue.Ref m) (λ other. not)
@@ -158,31 +164,31 @@ module _ (shapes : List Shape) (g : ℕ) (n : Name) (e : Ever) (h : IsHidden sha
     go true = hidden_value i d (e.field m k) (h.fields m k)
     go false = h
 
-  hidden_field : (m : Name) (k : ℕ) (x : EverValue) → x ≢ EverValue.Ref n → IsHidden shapes g n (with_field e m k x)
+  hidden_field : (m : Name) (k : ℕ) (x : EverValue) → names x ≢ Some n → IsHidden shapes g n (with_field e m k x)
   hidden_field m k x not = record { made = h.made; fields = λ o c. go o c (same_name o m && (c == k)); globals = h.globals; others = h.others } where
-    go : (o : Name) (c : ℕ) (b : Bool) → (cond b x (e.field o c)) ≢ EverValue.Ref n
+    go : (o : Name) (c : ℕ) (b : Bool) → names (cond b x (e.field o c)) ≢ Some n
     go o c true = not
     go o c false = h.fields o c
 
-  hidden_store : (base : EverValue) (k : ℕ) (x : EverValue) (a : Answer) → (a ≡ Answer.Done → x ≢ EverValue.Ref n) → IsHidden shapes g n (stores_value e base k x a)
+  hidden_store : (base : EverValue) (k : ℕ) (x : EverValue) (a : Answer) → (a ≡ Answer.Done → names x ≢ Some n) → IsHidden shapes g n (stores_value e base k x a)
   hidden_store (EverValue.Ref m) k x Answer.Done not = hidden_field m k x (not refl)
   hidden_store base k x a not = grind (arith, h)
 
-  hidden_set : (c : ℕ) (x : EverValue) (a : Answer) → (a ≡ Answer.Done → x ≢ EverValue.Ref n) → IsHidden shapes g n (sets_global e c x a)
+  hidden_set : (c : ℕ) (x : EverValue) (a : Answer) → (a ≡ Answer.Done → names x ≢ Some n) → IsHidden shapes g n (sets_global e c x a)
   hidden_set c x Answer.Done not = record { made = h.made; fields = h.fields; globals = λ o. go o (o == c); others = h.others } where
-    go : (o : ℕ) (b : Bool) → (cond b x (e.global o)) ≢ EverValue.Ref n
+    go : (o : ℕ) (b : Bool) → names (cond b x (e.global o)) ≢ Some n
     go o true = not refl
     go o false = h.globals o
   hidden_set c x a not = grind (arith, h)
 
   -- what another goroutine's register holds, or one of g, unless this stores the name
-  not_stored : (i r : ℕ) → (i ≡ g → e.register g r ≢ EverValue.Ref n) → e.register i r ≢ EverValue.Ref n
+  not_stored : (i r : ℕ) → (i ≡ g → names (e.register g r) ≢ Some n) → names (e.register i r) ≢ Some n
   not_stored i r own = go (eqb i g) refl where
-    go : (b : Bool) → eqb i g ≡ b → e.register i r ≢ EverValue.Ref n
-    go true q = subst (λ (j : ℕ). e.register j r ≢ EverValue.Ref n) (sym (eqb-true i g q)) (own (eqb-true i g q))
+    go : (b : Bool) → eqb i g ≡ b → names (e.register i r) ≢ Some n
+    go true q = subst (λ (j : ℕ). names (e.register j r) ≢ Some n) (sym (eqb-true i g q)) (own (eqb-true i g q))
     go false q = h.others i r (eqb-false i g q)
 
-  hidden_after : (o : Op) (full : Bool) → ((base k from : ℕ) → o ≡ Op.Store g base k from → full ≡ false → e.register g from ≢ EverValue.Ref n) → ((c from : ℕ) → o ≡ Op.SetGlobal g c from → full ≡ false → e.register g from ≢ EverValue.Ref n) → IsHidden shapes g n (ever_after shapes e o (cond full Answer.Full (answer_of shapes e o)))
+  hidden_after : (o : Op) (full : Bool) → ((base k from : ℕ) → o ≡ Op.Store g base k from → full ≡ false → names (e.register g from) ≢ Some n) → ((c from : ℕ) → o ≡ Op.SetGlobal g c from → full ≡ false → names (e.register g from) ≢ Some n) → IsHidden shapes g n (ever_after shapes e o (cond full Answer.Full (answer_of shapes e o)))
   hidden_after (Op.New i d t) true fields globals = hidden_register i d EverValue.Nil (λ other is. absurd cc)
   hidden_after (Op.New i d t) false fields globals = hidden_object i d t
   hidden_after (Op.Load i d b k) true fields globals = h
@@ -210,9 +216,9 @@ module _ (shapes : List Shape) (l : Layout) where
 
   module _ (n : Name) (k : ℕ) where
     -- what acts with the entry spares the field, where nobody stores there with it
-    spared : (e : Ever) (x : Act) → ((h base from : ℕ) → Some x ≡ Some (record { op = Op.Store h base k from; full = false }) → e.register h base ≢ EverValue.Ref n) → (v : EverValue) (t : ℕ) → HoldsIt shapes n k v t e → HoldsIt shapes n k v t (acted shapes e (Some x))
+    spared : (e : Ever) (x : Act) → ((h base from : ℕ) → Some x ≡ Some (record { op = Op.Store h base k from; full = false }) → names (e.register h base) ≢ Some n) → (v : EverValue) (t : ℕ) → HoldsIt shapes n k v t e → HoldsIt shapes n k v t (acted shapes e (Some x))
     spared e x none v t h = go x.op x.full refl where
-      of_store : (g b j r : ℕ) → x ≡ record { op = Op.Store g b j r; full = false } → j ≡ k → e.register g b ≢ EverValue.Ref n
+      of_store : (g b j r : ℕ) → x ≡ record { op = Op.Store g b j r; full = false } → j ≡ k → names (e.register g b) ≢ Some n
       of_store g b j r is same = none g b r (ap (λ (y : Act). Some y) is ∙ ap (λ (c : ℕ). Some (record { op = Op.Store g b c r; full = false })) same)
 
       go : (o : Op) (full : Bool) → x ≡ record { op = o; full = full } → HoldsIt shapes n k v t (ever_after shapes e o (cond full Answer.Full (answer_of shapes e o)))
@@ -222,7 +228,7 @@ module _ (shapes : List Shape) (l : Layout) where
       go (Op.Store g b j r) false is = after shapes n k v t e h (Op.Store g b j r) (answer_of shapes e (Op.Store g b j r)) (of_store g b j r is)
       go o full is = after shapes n k v t e h o (cond full Answer.Full (answer_of shapes e o)) tt
 
-    step : (e : Ever) (x : Option Act) → ((h base from : ℕ) → x ≡ Some (record { op = Op.Store h base k from; full = false }) → e.register h base ≢ EverValue.Ref n) → (v : EverValue) (t : ℕ) → HoldsIt shapes n k v t e → HoldsIt shapes n k v t (acted shapes e x)
+    step : (e : Ever) (x : Option Act) → ((h base from : ℕ) → x ≡ Some (record { op = Op.Store h base k from; full = false }) → names (e.register h base) ≢ Some n) → (v : EverValue) (t : ℕ) → HoldsIt shapes n k v t e → HoldsIt shapes n k v t (acted shapes e x)
     step e None none v t h = h
     step e (Some x) none v t h = spared e x none v t h
 
@@ -244,14 +250,17 @@ module _ (shapes : List Shape) (l : Layout) where
       abbrev F : Ever
       F = ever shapes l (between ++ store ∷ before)
 
+      base_is : E.register g s.base ≡ EverValue.Ref n
+      base_is = is_named (E.register g s.base) n s.object
+
       done : store_answer shapes E (EverValue.Ref n) k v ≡ Answer.Done
-      done = (λ i. store_answer shapes E (sym s.object i) k (sym s.value i)) ∙ s.done
+      done = (λ i. store_answer shapes E (sym base_is i) k (sym s.value i)) ∙ s.done
 
       there : has_field shapes E n k ≡ true
       there = has_it E v done
 
       stored : ever shapes l (store ∷ before) ≡ with_field E n k v
-      stored = ap (acted shapes E) s.acts ∙ ap (stores_value E (E.register g s.base) k (E.register g s.from)) s.done ∙ (λ i. stores_value E (s.object i) k (s.value i) Answer.Done)
+      stored = ap (acted shapes E) s.acts ∙ ap (stores_value E (E.register g s.base) k (E.register g s.from)) s.done ∙ (λ i. stores_value E (base_is i) k (s.value i) Answer.Done)
 
       first : HoldsIt shapes n k v (E.type_of n) (with_field E n k v)
       first = record { made = (named before).registers g s.base n s.object; typed = refl; field = rw (same_self n, eq-eqb k k refl) refl }
@@ -264,7 +273,7 @@ module _ (shapes : List Shape) (l : Layout) where
 
       pub answered_so : answer_of shapes F (Op.Load h loads.into loads.base k) ≡ answer_of_value v
       answered_so =
-          ap (λ (x : EverValue). load_answer shapes F x k) loads.object
+          ap (λ (x : EverValue). load_answer shapes F x k) (is_named (F.register h loads.base) n loads.object)
           ∙ ap (λ (b : Bool). cond b (answer_of_value (F.field n k)) (Answer.Fault Fault.Field)) still
           ∙ ap answer_of_value then.field
 
@@ -292,7 +301,7 @@ module _ (shapes : List Shape) (l : Layout) where
         let is : ever shapes l (make ∷ before) ≡ with_register (with_object shapes e g m.shape) g m.into (EverValue.Ref (next_name e g)) = ap (acted shapes e) m.acts in
         subst (IsHidden shapes g n) (sym is) (subst (λ (o : Name). IsHidden shapes g o (with_register (with_object shapes e g m.shape) g m.into (EverValue.Ref (next_name e g)))) m.named (new_hidden shapes g e (λ h d x. unmade (next_name e g) e.made (none.registers h d (next_name e g) x) refl) (λ o c x. unmade (next_name e g) e.made (none.fields o c (next_name e g) x) refl) (λ c x. unmade (next_name e g) e.made (none.globals c (next_name e g) x) refl) m.shape m.into))
 
-    still_hidden : (e : Ever) (x : Option Act) → ((base k from : ℕ) → x ≡ Some (record { op = Op.Store g base k from; full = false }) → e.register g from ≢ EverValue.Ref n) → ((c from : ℕ) → x ≡ Some (record { op = Op.SetGlobal g c from; full = false }) → e.register g from ≢ EverValue.Ref n) → IsHidden shapes g n e → IsHidden shapes g n (acted shapes e x)
+    still_hidden : (e : Ever) (x : Option Act) → ((base k from : ℕ) → x ≡ Some (record { op = Op.Store g base k from; full = false }) → names (e.register g from) ≢ Some n) → ((c from : ℕ) → x ≡ Some (record { op = Op.SetGlobal g c from; full = false }) → names (e.register g from) ≢ Some n) → IsHidden shapes g n e → IsHidden shapes g n (acted shapes e x)
     still_hidden e None fields globals h = h
     still_hidden e (Some x) fields globals h = go x.op x.full refl where
       go : (o : Op) (full : Bool) → x ≡ record { op = o; full = full } → IsHidden shapes g n (ever_after shapes e o (cond full Answer.Full (answer_of shapes e o)))

@@ -29,7 +29,7 @@ pub use Rattle.gh_lists.specs.Starts.{legal_start, start_of_start, whole}
 pub use Rattle.gh_lists.specs.SumsBelow.{by_words, sum_same, sum_times}
 pub use Rattle.gh_lists.specs.declared.handshake.Actor.{Actor}
 pub use Rattle.gh_model.specs.Answers.{Answers, ever_after_all}
-pub use Rattle.gh_model.specs.Ever.{from_field, from_global, from_register, with_end}
+pub use Rattle.gh_model.specs.Ever.{from_field, from_global, from_register, names, with_end}
 pub use Rattle.gh_model.specs.declared.EverValue.{EverValue}
 pub use Rattle.gh_mutator.specs.Deeds.{given_at, point_of}
 pub use Rattle.gh_mutator.specs.Listing.{gives}

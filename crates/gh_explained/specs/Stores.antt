@@ -1,7 +1,7 @@
 -- What a load answers, by the stores that acted before it, in the heap that never frees: of every list of a heap's steps, the newest first.
 use Rattle.std.specs.Prelude.{◌≡◌, ◌≢◌, ℕ, false, List, [], ◌∷◌, ◌++◌, Option, Some}
 use Rattle.gh_world.specs.Vocabulary.{Act, acts, Answer, before_step, Entry, Ever, ever_of, Layout, Name, Op, Shape}
-use Rattle.gh_model.specs.Ever.{answer_of, answer_of_value, next_name}
+use Rattle.gh_model.specs.Ever.{answer_of, answer_of_value, names, next_name}
 use Rattle.gh_model.specs.declared.EverValue.{EverValue}
 
 module _ (shapes : List Shape) (l : Layout) where
@@ -17,7 +17,7 @@ module _ (shapes : List Shape) (l : Layout) where
     pub base : ℕ
     pub from : ℕ
     pub acts : act_of before e ≡ Some (record { op = Op.Store g base k from; full = false })
-    pub object : (ever before).register g base ≡ EverValue.Ref n
+    pub object : names ((ever before).register g base) ≡ Some n
     pub value : (ever before).register g from ≡ v
     pub done : answer_of shapes (ever before) (Op.Store g base k from) ≡ Answer.Done
 
@@ -26,11 +26,11 @@ module _ (shapes : List Shape) (l : Layout) where
     pub into : ℕ
     pub base : ℕ
     pub acts : act_of before e ≡ Some (record { op = Op.Load g into base k; full = false })
-    pub object : (ever before).register g base ≡ EverValue.Ref n
+    pub object : names ((ever before).register g base) ≡ Some n
 
   -- with this entry goroutine g stores nothing in field k of the object
   abbrev pub Leaves : (g : ℕ) (n : Name) (k : ℕ) (before : List (Entry Op)) → Entry Op → Type 0
-  Leaves g n k before e = (base from : ℕ) → act_of before e ≡ Some (record { op = Op.Store g base k from; full = false }) → (ever before).register g base ≢ EverValue.Ref n
+  Leaves g n k before e = (base from : ℕ) → act_of before e ≡ Some (record { op = Op.Store g base k from; full = false }) → names ((ever before).register g base) ≢ Some n
 
   -- with none of these entries any goroutine does
   abbrev pub NoneStores : (n : Name) (k : ℕ) (between before : List (Entry Op)) → Type 0
@@ -39,7 +39,7 @@ module _ (shapes : List Shape) (l : Layout) where
 
   -- no register of another goroutine names the object
   abbrev pub IsAlone : (g : ℕ) (n : Name) → Ever → Type 0
-  IsAlone g n e = (h d : ℕ) → h ≢ g → e.register h d ≢ EverValue.Ref n
+  IsAlone g n e = (h d : ℕ) → h ≢ g → names (e.register h d) ≢ Some n
 
   -- so it is at each moment of these entries
   abbrev pub IsAloneAlong : (g : ℕ) (n : Name) (between before : List (Entry Op)) → Type 0
@@ -60,8 +60,8 @@ module _ (shapes : List Shape) (l : Layout) where
 
   -- goroutine g stores the object's name with this entry in no field and no global
   pub record Hides (g : ℕ) (n : Name) (before : List (Entry Op)) (e : Entry Op) : Type 0 where
-    pub fields : (base k from : ℕ) → act_of before e ≡ Some (record { op = Op.Store g base k from; full = false }) → (ever before).register g from ≢ EverValue.Ref n
-    pub globals : (c from : ℕ) → act_of before e ≡ Some (record { op = Op.SetGlobal g c from; full = false }) → (ever before).register g from ≢ EverValue.Ref n
+    pub fields : (base k from : ℕ) → act_of before e ≡ Some (record { op = Op.Store g base k from; full = false }) → names ((ever before).register g from) ≢ Some n
+    pub globals : (c from : ℕ) → act_of before e ≡ Some (record { op = Op.SetGlobal g c from; full = false }) → names ((ever before).register g from) ≢ Some n
 
   abbrev pub HidesAlong : (g : ℕ) (n : Name) (between before : List (Entry Op)) → Type 0
   HidesAlong g n [] before = Unit {0}

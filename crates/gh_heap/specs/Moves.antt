@@ -1,7 +1,7 @@
 -- The moves by which an actor changes the shared state, when it may make them, and what they leave to the others.
 use Rattle.std.specs.Prelude.{◌≡◌, ◌≢◌, ℕ, ◌+◌, ◌*◌, ◌/◌, ◌%◌, ◌^◌, ◌<◌, ◌≤◌, true, false, ◌==◌, if◌then◌else◌, bit_and, bit_or, length, Option, Some, None, ◌⊎◌}
 use Rattle.std.specs.Int.{bit_at}
-use Rattle.gh_heap.specs.Vocabulary.{Ask, birth_word, bit, body_word, Cell, Ever, EverValue, field_count, FitsHead, Head, head_word, is_pointer, Large, MOST_STATEMENTS, Name, next_name, page_of, put, Reach, REGISTERS, Row, row_bit, same_name, shape_at, size_class_of, SpanHead, with_end, with_field, with_global, with_object, with_register, Words}
+use Rattle.gh_heap.specs.Vocabulary.{Ask, birth_word, bit, body_word, Cell, Ever, EverValue, field_count, FitsHead, Head, head_word, is_pointer, Large, MOST_STATEMENTS, Name, names, next_name, page_of, put, Reach, REGISTERS, Row, row_bit, same_name, shape_at, size_class_of, SpanHead, with_end, with_field, with_global, with_object, with_register, Words}
 use Rattle.gh_base.specs.Steps.{cell_of, effect}
 use Rattle.gh_heap.specs.Objects.{Holds, IsMade, Place, points, size_for}
 use Rattle.gh_heap.specs.Rights.{Arena, Shared, View, view, Claims, IsOf}
@@ -116,8 +116,7 @@ pub record GoroutineRuns (z : Arena) (v : View) (a g : ℕ) : Type 0 where
 
 -- a value that a register, a field or a global may take: it names nothing, or what a script reaches
 abbrev pub IsReached : Ever → EverValue → Type 0
-IsReached e (EverValue.Ref n) = Reach e n
-IsReached e _ = Unit {0}
+IsReached e v = (n : Name) → names v ≡ Some n → Reach e n
 
 -- the bits of the word that are not the slot's are as they were
 abbrev pub KeepsOthers : (bitmap : Row) → (at size i word : ℕ) → Type 0

@@ -14,7 +14,7 @@ pub use Rattle.gh_cycle.specs.Reached.{TheReachedWereMade}
 pub use Rattle.gh_cycle.specs.Since.{HasGoneOn}
 pub use Rattle.gh_heap.specs.Laws.{HeapIsApart, name_made}
 pub use Rattle.gh_heap.specs.Moves.{IsAside as IsAsideCell, Others, Quiet}
-pub use Rattle.gh_heap.specs.Objects.{InSlot, Place}
+pub use Rattle.gh_heap.specs.Objects.{InSlot, Place, reference_to}
 pub use Rattle.gh_heap.specs.Spans.{Freeing, IsSlotOf, Laying}
 pub use Rattle.gh_holds.specs.ActorsHold.{EndedSo, HasCleared, HasCursor, HasEnded, HasRead, Holds, HoldsAt, IsBegun, IsClosing, IsCounting, IsNewThere, IsOff, IsOpening, IsQuiet, IsRead, IsReady, IsSweeping, IsTold, NobodyMarks, page_at, Walks, WalksAt, WasSo}
 pub use Rattle.gh_holds.specs.EveryList.{HoldsAfter, InCycles}
@@ -44,7 +44,7 @@ pub use Rattle.gh_marked.specs.State.{began, began_words}
 pub use Rattle.gh_marked.specs.Sweepers.{IsInSweep, sweep_of}
 pub use Rattle.gh_marks.specs.Colours.{Black, Colour, IsGrey, IsMarked, mark_of, Placing, Scanned, Untouched, White}
 pub use Rattle.gh_marks.specs.Moves.{goes, stays, Steps}
-pub use Rattle.gh_model.specs.Ever.{from_field, from_global, from_register, next_name, opening_ever}
+pub use Rattle.gh_model.specs.Ever.{from_field, from_global, from_register, names, next_name, opening_ever}
 pub use Rattle.gh_mutator.specs.Deeds.{meaning}
 pub use Rattle.gh_mutator.specs.Processor.{opening_processor}
 pub use Rattle.gh_mutator.specs.ProcessorMarks.{StandsWithNothing}

@@ -61,7 +61,7 @@ pub use Rattle.gh_lists.specs.Wants.{AreFew, CountsWants, IsToOpen}
 pub use Rattle.gh_lists.specs.Writing.{awake_at, knows_at, leaves_numbers}
 pub use Rattle.gh_marked.specs.Tied.{TiesShowWhatThereIs}
 pub use Rattle.gh_marks.specs.Colours.{Buffered, buffers_as_held, Colour, Cycle, IsShaded, Shared as Marking}
-pub use Rattle.gh_model.specs.Ever.{answer_of, answer_of_value, ever_after, is_number, load_answer, next_name, opening_ever, sets_global, store_answer, stores_value, takes_answer, with_end, with_object, with_register}
+pub use Rattle.gh_model.specs.Ever.{answer_of, answer_of_value, ever_after, is_number, load_answer, names, next_name, opening_ever, sets_global, store_answer, stores_value, takes_answer, with_end, with_object, with_register}
 pub use Rattle.gh_mutator.specs.Deeds.{acted, deeds, has_point, processor_kind}
 pub use Rattle.gh_mutator.specs.Listing.{Act, acting, acts, acts_at, after_gc, after_leave, after_poll, asks, begins_at, follows, gives_at, is_busy_at, once_ended, op_at, takes, takes_at}
 pub use Rattle.gh_mutator.specs.New.{after_assist, after_place, after_search, after_wait, own_span}

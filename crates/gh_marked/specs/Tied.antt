@@ -1,7 +1,7 @@
 -- What ties a state of marking to a list of all actors: to its words, to the heap that never frees, and to what each actor is at.
-use Rattle.std.specs.Prelude.{◌≡◌, ◌≢◌, ℕ, ◌+◌, ◌<◌, ◌≤◌, ◌↔◌, true, false, List}
+use Rattle.std.specs.Prelude.{◌≡◌, ◌≢◌, ℕ, ◌+◌, ◌<◌, ◌≤◌, ◌↔◌, true, false, List, Some}
 use Rattle.gh_marked.specs.Vocabulary.{acks_of, actors, Arena, arena_of, Cell, Cycle, END, Entry, Ever, ever_after_list, Good, Hands, Heap, HeapGood, IsBeside, IsBounded, IsPlacedAt, KnowsObjects, mark_words, MarkFacts, Marking, Marks, Name, nothing, Op, opening_words, processor_kind, Reach, REGISTERS, row_bit, Setup, state_of, view, White, Words, words_after, Working}
-use Rattle.gh_model.specs.declared.EverValue.TheVariants.{Ref}
+use Rattle.gh_model.specs.Ever.{names}
 use Rattle.gh_heap.specs.Objects.{points, shape_for, size_for}
 use Rattle.gh_worker.specs.MarkFacts.{Facts as WorkerFacts}
 
@@ -57,7 +57,7 @@ module _ (setup : Setup) where
   -- Each object that a script reaches; what a register of a goroutine that goes on names; and what is marked. A state of marking with nothing in it is one of no list after which a script reaches an object.
   pub record ShowsWhatThereIs (es : List (Entry Op)) (s : Marking) : Type 0 where
     pub objects : (n : Name) → Reach (ever_told es) n → HasObject es s n
-    pub registers : (g d : ℕ) (n : Name) → g < setup.layout.goroutines → d < REGISTERS → (ever_told es).ended g ≡ false → (ever_told es).register g d ≡ Ref n → (a : ℕ) × IsPlacedAt (told es) n a × (s.registers g d ≡ a + 1)
+    pub registers : (g d : ℕ) (n : Name) → g < setup.layout.goroutines → d < REGISTERS → (ever_told es).ended g ≡ false → names ((ever_told es).register g d) ≡ Some n → (a : ℕ) × IsPlacedAt (told es) n a × (s.registers g d ≡ a + 1)
     pub marks : (a : ℕ) → row_bit (mark_words (told es)) a ≡ 1 → s.colour a ≢ White
 
 abbrev pub TiesShowWhatThereIs : Type 0

@@ -1,5 +1,5 @@
 -- The heap that never frees: what statements answer and what they change, by names and paths.
-use Rattle.std.specs.Prelude.{◌≡◌, ℕ, ◌+◌, nat_lt, Bool, true, false, ◌==◌, ◌&&◌, if◌then◌else◌, List}
+use Rattle.std.specs.Prelude.{◌≡◌, ℕ, ◌+◌, nat_lt, Bool, true, false, ◌==◌, ◌&&◌, if◌then◌else◌, List, Option, Some, None}
 use Rattle.gh_model.specs.Vocabulary.{Answer, Op, Shape}
 use Rattle.gh_base.specs.declared.value.Name.{Name}
 use Rattle.gh_base.specs.declared.value.Fault.TheVariants.{NilBase, Field, Kind}
@@ -34,6 +34,11 @@ same_name n m = (n.g == m.g) && (n.k == m.k)
 -- the name of the next object that g makes
 abbrev pub next_name : Ever → ℕ → Name
 next_name e g = record { g = g; k = e.made g }
+
+-- the object that a value names
+abbrev pub names : EverValue → Option Name
+names (EverValue.Ref n) = Some n
+names _ = None
 
 -- an object of the shape has the words of its slot
 abbrev pub field_count : Shape → ℕ
@@ -158,6 +163,6 @@ ever_after shapes e Leave a = e
 
 -- A finite path of pointer fields leads to the object from a global, or from a register of a goroutine that has not ended.
 pub data Reach (e : Ever) : Name → Type 0 where
-  from_global : (k : ℕ) (n : Name) → e.global k ≡ EverValue.Ref n → Reach e n
-  from_register : (g d : ℕ) (n : Name) → e.ended g ≡ false → e.register g d ≡ EverValue.Ref n → Reach e n
-  from_field : (m : Name) (k : ℕ) (n : Name) → Reach e m → e.field m k ≡ EverValue.Ref n → Reach e n
+  from_global : (k : ℕ) (n : Name) → names (e.global k) ≡ Some n → Reach e n
+  from_register : (g d : ℕ) (n : Name) → e.ended g ≡ false → names (e.register g d) ≡ Some n → Reach e n
+  from_field : (m : Name) (k : ℕ) (n : Name) → Reach e m → names (e.field m k) ≡ Some n → Reach e n

@@ -44,7 +44,7 @@ pub use Rattle.gh_heap.specs.Rights.{Claims, Good as HeapGood}
 pub use Rattle.gh_heap.specs.Spans.{FitsClass, Freeing, is_own_class, IsFull, Laying, number_of_class, owned_by, owner_at, owner_in, slot_count, slot_size}
 pub use Rattle.gh_marks.specs.Colours.{IsClean, IsPointer, Placing as PlacingBy, Shared as Marking}
 pub use Rattle.gh_marks.specs.Moves.{BehindBarrier, IsQuietInMarking}
-pub use Rattle.gh_model.specs.Ever.{answer_of, answer_of_value, ever_after, field_count, load_answer, next_name, Reach, same_name, sets_global, store_answer, stores_value, takes_answer, with_end, with_field, with_global, with_object, with_register, with_register as ever_with}
+pub use Rattle.gh_model.specs.Ever.{answer_of, answer_of_value, ever_after, field_count, load_answer, names, next_name, Reach, same_name, sets_global, store_answer, stores_value, takes_answer, with_end, with_field, with_global, with_object, with_register, with_register as ever_with}
 pub use Rattle.gh_model.specs.declared.EverValue.{EverValue}
 pub use Rattle.gh_mutator.specs.Deeds.{has_point}
 pub use Rattle.gh_mutator.specs.Fields.{field_cell, has_field, is_pointer_by, kinds_differ, takes as takes_value, value_of, value_told, word_of_value}

@@ -2,6 +2,7 @@
 use Rattle.std.specs.Prelude.{◌≡◌, ◌≢◌, ℕ, ◌+◌, ◌^◌, ◌<◌, ◌≤◌, Bool, true, false, List, ◌++◌, length, slice_index, Option, Some, None}
 use Rattle.gh_mutator_heap.specs.Vocabulary.{Act, acted, acts, Answer, answer_at, Arena, asks, cache_with, cached_for, cell_of, Ever, fits, gives, Good, GoroutineRuns, is_number, IsMade, IsOf, MOST_GOROUTINES, MOST_STATEMENTS, Op, option_to_list, Others, own_found, points, Polling, Processor, register_at, REGISTERS, Rights, Shape, Shared, size_for, Small, SpanClass, Steps, takes, Task, View, view, waiting, with_span}
 use Rattle.gh_mutator.specs.Vocabulary.{Name, Placing, Seeking, shape_at, Sought}
+use Rattle.gh_model.specs.Ever.{names}
 use Rattle.gh_model.specs.declared.EverValue.{EverValue}
 use Rattle.gh_base.specs.Shapes.{FitsShape, bits_at}
 use Rattle.gh_base.specs.Packing.{page_of}
@@ -128,7 +129,7 @@ IsPlain _ = Unit {0}
 pub record Through (z : Arena) (a : ℕ) (v : View) (g b at : ℕ) (n : Name) : Type 0 where
   pub runs : GoroutineRuns z v a g
   pub register : b < REGISTERS
-  pub names : v.ever.register g b ≡ EverValue.Ref n
+  pub names : names (v.ever.register g b) ≡ Some n
   pub made : IsMade v.ever.made n
   pub here : at ≡ v.place n
 

@@ -1,10 +1,10 @@
 -- What a list says of its cycles, and what is live at its end: by the words where each cycle ended, and by the heap that never frees.
-use Rattle.std.specs.Prelude.{◌≡◌, ◌≢◌, ◌↔◌, ℕ, ◌*◌, List, [], ◌∷◌, ◌++◌, length, sum_by, AllPairs}
+use Rattle.std.specs.Prelude.{◌≡◌, ◌≢◌, ◌↔◌, ℕ, ◌*◌, List, [], ◌∷◌, ◌++◌, length, sum_by, AllPairs, Some}
 use Rattle.gh_world.specs.Vocabulary.{Ask, Entry, Ever, field_count, Layout, Name, Op, Shape, shape_of, SweptCycle, Words, words_after}
 use Rattle.gh_base.specs.declared.cell.Ask.TheVariants.{Store}
 use Rattle.gh_base.specs.declared.cell.Cell.{Cell}
 use Rattle.gh_base.specs.Rows.{alloc_words, mark_words}
-use Rattle.gh_model.specs.declared.EverValue.TheVariants.{Ref}
+use Rattle.gh_model.specs.Ever.{names}
 use Rattle.gh_sweep.specs.Counts.{marked_objects, unmarked_objects}
 use Rattle.gh_law.specs.Names.{IsAmong}
 
@@ -24,8 +24,8 @@ cycles_in l opening (e ∷ es) = cycles_in l opening es ++ ended_by l (words_aft
 
 -- a path of pointer fields leads to the object from a global
 pub data IsHeldByGlobals (e : Ever) : Name → Type 0 where
-  by_global : (k : ℕ) (n : Name) → e.global k ≡ Ref n → IsHeldByGlobals e n
-  by_field : (m : Name) (k : ℕ) (n : Name) → IsHeldByGlobals e m → e.field m k ≡ Ref n → IsHeldByGlobals e n
+  by_global : (k : ℕ) (n : Name) → names (e.global k) ≡ Some n → IsHeldByGlobals e n
+  by_field : (m : Name) (k : ℕ) (n : Name) → IsHeldByGlobals e m → names (e.field m k) ≡ Some n → IsHeldByGlobals e n
 
 -- the bytes of the object's slot
 abbrev pub bytes_of : List Shape → Ever → Name → ℕ

@@ -1,22 +1,19 @@
 -- Where a register takes its value from the heap that never frees, marking sees its word come from the same place; and so a script reaches the value.
-use Rattle.std.proofs.Common.{◌≡◌, ℕ, ◌+◌, ◌<◌, Bool, true, false, refl, sym, ap, subst, ◌∙◌, arith}
-use Rattle.gh_cycle.proofs.Vocabulary.{Arena, Cell, Cycle, Ever, EverValue, from_nil, from_number, GoroutineRuns, Heap, Holds, IsMade, IsOfCycle, IsPointer, IsReached, Marking, Name, Place, points, Reach, reference_of, REGISTERS, shape_for, size_for, TakesFrom, TheReachedWereMade, view}
+use Rattle.std.proofs.Common.{◌≡◌, ℕ, ◌+◌, ◌<◌, Bool, true, false, Some, refl, sym, subst, ◌∙◌, arith}
+use Rattle.gh_cycle.proofs.Vocabulary.{Arena, Cell, Cycle, Ever, EverValue, from_nil, from_number, GoroutineRuns, Heap, Holds, IsMade, IsOfCycle, IsPointer, IsReached, Marking, Name, names, Place, points, Reach, reference_of, REGISTERS, shape_for, size_for, TakesFrom, TheReachedWereMade, view}
 use Rattle.gh_model.specs.Ever as path
 use Rattle.gh_marks.specs.Moves as marks
 use Rattle.gh_cycle.specs.Deeds.{from_field, from_global, from_register}
+use Rattle.gh_cycle.proofs.Beginning.{reference-told}
 use Rattle.gh_cycle.proofs.Going.Objects.{here}
 use Rattle.gh_cycle.proofs.Going.Plain.{Together}
 
--- a value is reached where the object is that it names
-reached-if : (e : Ever) (value : EverValue) → ((n : Name) → value ≡ EverValue.Ref n → Reach e n) → IsReached e value
-reached-if e value reach = grind arith
-
 pub from-reached : (z : Arena) (e : Ever) (g : ℕ) → e.ended g ≡ false → (value : EverValue) → TakesFrom z e g value → IsReached e value
-from-reached z e g on value from_nil = tt
-from-reached z e g on value (from_number i) = tt
-from-reached z e g on value (from_register r low) = reached-if e (e.register g r) (λ n is. path.from_register g r n on is)
-from-reached z e g on value (from_field r n k low names few scans) = reached-if e (e.field n k) (λ m is. path.from_field n k m (path.from_register g r n on names) is)
-from-reached z e g on value (from_global k low) = reached-if e (e.global k) (λ n is. path.from_global k n is)
+from-reached z e g on value from_nil = λ n is. absurd (cc)
+from-reached z e g on value (from_number i) = λ n is. absurd (cc)
+from-reached z e g on value (from_register r low) = λ n is. path.from_register g r n on is
+from-reached z e g on value (from_field r n k low named few scans) = λ m is. path.from_field n k m (path.from_register g r n on named) is
+from-reached z e g on value (from_global k low) = λ n is. path.from_global k n is
 
 -- the word of a pointer is what its value names, and a number names nothing
 word-of : (place : Place) (made : ℕ → ℕ) (value : EverValue) (word : ℕ) → Holds place made true value word → word ≡ reference_of place value
@@ -36,10 +33,10 @@ module _ (made : TheReachedWereMade) (z : Cycle) (a : ℕ) (h : Heap) (s : Marki
   register-is r low = w.beside.registers g r runs.of.0 low runs.goes_on
 
   -- a field of an object that a register names: where it is no pointer, it holds a number
-  field-comes : (r : ℕ) (n : Name) (k : ℕ) → r < REGISTERS → h.ever.register g r ≡ EverValue.Ref n → k < size_for z.arena.shapes h.ever.type_of n → (points z.arena.shapes h.ever.type_of n k ≡ true → (shape_for z.arena.shapes h.ever.type_of n).noscan ≡ false) → Comes (h.ever.field n k)
-  field-comes r n k low names few scans = by (points z.arena.shapes h.ever.type_of n k) refl (w.heap.fields n k known (w.heap.reached n reach) few) where
+  field-comes : (r : ℕ) (n : Name) (k : ℕ) → r < REGISTERS → names (h.ever.register g r) ≡ Some n → k < size_for z.arena.shapes h.ever.type_of n → (points z.arena.shapes h.ever.type_of n k ≡ true → (shape_for z.arena.shapes h.ever.type_of n).noscan ≡ false) → Comes (h.ever.field n k)
+  field-comes r n k low named few scans = by (points z.arena.shapes h.ever.type_of n k) refl (w.heap.fields n k known (w.heap.reached n reach) few) where
     reach : Reach h.ever n
-    reach = path.from_register g r n runs.goes_on names
+    reach = path.from_register g r n runs.goes_on named
 
     known : IsMade h.ever.made n
     known = made z.arena h.ever w.bounded n reach
@@ -49,7 +46,7 @@ module _ (made : TheReachedWereMade) (z : Cycle) (a : ℕ) (h : Heap) (s : Marki
 
     by : (p : Bool) → points z.arena.shapes h.ever.type_of n k ≡ p → Holds h.place h.ever.made p (h.ever.field n k) (s.words (Cell.Field (h.place n + k))) → Comes (h.ever.field n k)
     by true kind holds = by-word (s.words (Cell.Field (h.place n + k))) (h.ever.field n k) (word-of h.place h.ever.made (h.ever.field n k) (s.words (Cell.Field (h.place n + k))) holds)
-        (marks.from_field r (h.place n) k low (register-is r low ∙ ap (reference_of h.place) names) pointer) where
+        (marks.from_field r (h.place n) k low (register-is r low ∙ reference-told h.place (h.ever.register g r) n named) pointer) where
           pointer : IsPointer s.extents (h.place n) k
           pointer = (subst (λ (i : ℕ). k < i) (sym (w.beside.size n of)) few, w.beside.pointer n k of few ∙ kind, w.beside.noscan n of ∙ scans kind)
     by false kind holds = by-word 0 (h.ever.field n k) (none-of h.place h.ever.made (h.ever.field n k) (s.words (Cell.Field (h.place n + k))) holds) marks.from_nothing
@@ -58,5 +55,5 @@ module _ (made : TheReachedWereMade) (z : Cycle) (a : ℕ) (h : Heap) (s : Marki
   comes value from_nil = marks.from_nothing
   comes value (from_number i) = marks.from_nothing
   comes value (from_register r low) = by-word (s.registers g r) (h.ever.register g r) (register-is r low) (marks.from_register r low)
-  comes value (from_field r n k low names few scans) = field-comes r n k low names few scans
+  comes value (from_field r n k low named few scans) = field-comes r n k low named few scans
   comes value (from_global k low) = by-word (s.words (Cell.Global k)) (h.ever.global k) (word-of h.place h.ever.made (h.ever.global k) (s.words (Cell.Global k)) (w.heap.globals k low)) (marks.from_global k low)

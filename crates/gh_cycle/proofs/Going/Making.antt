@@ -1,6 +1,6 @@
 -- An object is made beside marking: it is black from the first, since its slot was marked before and its pointer fields are clear.
-use Rattle.std.proofs.Common.{◌≡◌, ◌≢◌, ℕ, ◌+◌, ◌-◌, ◌*◌, ◌<◌, ◌≤◌, ◌⊎◌, Bool, true, false, cond, refl, sym, ap, subst, ◌∙◌, inl, inr, arith, eq-eqb}
-use Rattle.gh_cycle.proofs.Vocabulary.{alloc_words, Black, ClaimsSlot, Cycle, eqb_tells, EverValue, field_count, Good, Hands, Heap, InHand, is_pointer, IsMade, IsOfCycle, KnownOfMoves, Marking, Name, next_name, Placed, Placing, points, Reach, reference_of, RegistersFit, row_bit, same_name, Shape, shape_at, shape_for, size_for, update, view, with_object}
+use Rattle.std.proofs.Common.{◌≡◌, ◌≢◌, ℕ, ◌+◌, ◌-◌, ◌*◌, ◌<◌, ◌≤◌, ◌⊎◌, Bool, true, false, cond, Some, refl, sym, ap, subst, ◌∙◌, inl, inr, arith, eq-eqb}
+use Rattle.gh_cycle.proofs.Vocabulary.{alloc_words, Black, ClaimsSlot, Cycle, eqb_tells, EverValue, field_count, Good, Hands, Heap, InHand, is_pointer, IsMade, IsOfCycle, KnownOfMoves, Marking, Name, names, next_name, Placed, Placing, points, Reach, reference_of, RegistersFit, row_bit, same_name, Shape, shape_at, shape_for, size_for, update, view, with_object}
 use Rattle.gh_heap.specs.Moves as heap
 use Rattle.gh_marks.specs.Moves as marks
 use Rattle.gh_cycle.proofs.Reaching.{name-itself, name-tells}
@@ -170,8 +170,10 @@ module _ (k : KnownOfMoves) (z : Cycle) (a : ℕ) (h : Heap) (s : Marking) (w : 
       | inl y ↦ let c = w.beside.filling o b was in record { size = c.size; claim = record { p = c.claim.p; h = c.claim.h; i = c.claim.i; held = c.claim.held; slot = c.claim.slot; clear = k.rows.sets_no_other (alloc_words s.words) at o ne ∙ c.claim.clear } }
     ]
 
-  reference-same : (v : EverValue) → ((n : Name) → v ≡ EverValue.Ref n → IsMade h.ever.made n) → reference_of h.place v ≡ reference_of after.place v
-  reference-same v made = grind (arith, place-old)
+  reference-same : (v : EverValue) → ((n : Name) → names v ≡ Some n → IsMade h.ever.made n) → reference_of h.place v ≡ reference_of after.place v
+  reference-same EverValue.Nil made = refl
+  reference-same (EverValue.Int i) made = refl
+  reference-same (EverValue.Ref n) made = ap (λ (x : ℕ). x + 1) (sym (place-old n (made n refl)))
 
   fit : RegistersFit z.arena after then
   fit j c lj lc runs = ap (λ (x : ℕ). heap.update_at s.registers g d x j c) (ap (λ (x : ℕ). x + 1) (sym at-new))

@@ -29,7 +29,7 @@ module _ (k : KnownOfMoves) (z : Cycle) (a : ℕ) (h : Heap) (s : Marking) (w : 
   pub reference-since : (value : EverValue) → IsReached h.ever value → IsSince s.since (reference_of h.place value)
   reference-since value reached o is =
       let m = names-reference h.place value o is in
-      subst (λ (x : ℕ). s.since x ≡ true) m.2 (w.beside.reached m.0 (subst (λ (v : EverValue). IsReached h.ever v) m.1 reached))
+      subst (λ (x : ℕ). s.since x ≡ true) m.2 (w.beside.reached m.0 (reached m.0 m.1))
 
   -- The seat's own claims, behind a step on a word that no right guards.
   module _ (step : Ask) (q : heap.IsQuiet step) where

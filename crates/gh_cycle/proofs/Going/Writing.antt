@@ -12,7 +12,7 @@ module _ (k : KnownOfMoves) (z : Cycle) (a : ℕ) (h : Heap) (s : Marking) (w : 
   word-since : (value : EverValue) (word : ℕ) → IsReached h.ever value → Holds h.place h.ever.made true value word → IsSince s.since word
   word-since value word reached holds o is =
       let m = names-it h.place h.ever.made value word o holds is in
-      subst (λ (x : ℕ). s.since x ≡ true) m.2 (w.beside.reached m.0 (subst (λ (v : EverValue). IsReached h.ever v) m.1 reached))
+      subst (λ (x : ℕ). s.since x ≡ true) m.2 (w.beside.reached m.0 (reached m.0 m.1))
 
   -- what the seat claims it claims still: neither pages nor alloc bits change
   abbrev Claimed : heap.Move → Type 0

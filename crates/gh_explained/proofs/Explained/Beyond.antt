@@ -1,6 +1,6 @@
 -- Where all is over a script reaches what its globals hold: every goroutine that there is has ended, and no other has a register that names an object.
-use Rattle.std.proofs.Common.{◌≡◌, ℕ, ◌<◌, ◌≤◌, Bool, true, false, cond, List, [], ◌∷◌, refl, sym, ◌∙◌, arith, inl, inr}
-use Rattle.gh_explained.proofs.Vocabulary.{Answer, by_field, by_global, cases_lt, Ever, ever_after, ever_after_all, EverValue, filter, from_field, from_global, from_register, is_statement_of, IsHeldByGlobals, Name, nat_tests, Op, Reach, Shape}
+use Rattle.std.proofs.Common.{◌≡◌, ℕ, ◌<◌, ◌≤◌, Bool, true, false, cond, List, [], ◌∷◌, Some, None, refl, sym, ap, ◌∙◌, arith, inl, inr}
+use Rattle.gh_explained.proofs.Vocabulary.{Answer, by_field, by_global, cases_lt, Ever, ever_after, ever_after_all, EverValue, filter, from_field, from_global, from_register, is_statement_of, IsHeldByGlobals, Name, names, nat_tests, Op, Reach, Shape}
 
 module _ (shapes : List Shape) (g d : ℕ) where
   -- whoever is no statement of the goroutine leaves its registers
@@ -21,6 +21,6 @@ pub held_at_end : (e : Ever) (goroutines : ℕ) → ((g : ℕ) → g < goroutine
 held_at_end e goroutines over beyond n (from_global k m is) = by_global k m is
 held_at_end e goroutines over beyond n (from_register g d m runs is) = elim (cases_lt g goroutines) [
   | inl lt ↦ absurd (let no : true ≡ false = sym (over g lt) ∙ runs in cc)
-  | inr le ↦ absurd (let no : EverValue.Nil ≡ EverValue.Ref m = sym (beyond g d le) ∙ is in cc)
+  | inr le ↦ absurd (let no : None ≡ Some m = ap names (sym (beyond g d le)) ∙ is in cc)
 ]
 held_at_end e goroutines over beyond n (from_field m k o r is) = by_field m k o (held_at_end e goroutines over beyond m r) is

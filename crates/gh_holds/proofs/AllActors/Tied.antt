@@ -1,6 +1,6 @@
 -- What is known while a cycle is marked ties the state of marking to the list; and one that is of a list's heap has what there is.
-use Rattle.std.proofs.Common.{◌≡◌, ◌≢◌, ◌↔◌, ℕ, ◌+◌, ◌<◌, true, false, sym, ap, subst, ◌∙◌, arith, List}
-use Rattle.gh_holds.proofs.Vocabulary.{Arena, arena, Cell, Coordinating, Cycle, END, Entry, Ever, ever, EverValue, from_register, Good, HasState, IsBeside, IsInMarking, IsPlacedAt, Known, mark_of, mark_words, Marking, MarkingGood, Name, Op, processor_at, Reach, reference_of, REGISTERS, row_bit, runs_are, Setup, TheReachedWereMade, view, White, Words, words}
+use Rattle.std.proofs.Common.{◌≡◌, ◌≢◌, ◌↔◌, ℕ, ◌<◌, true, false, Some, sym, ap, subst, ◌∙◌, arith, List}
+use Rattle.gh_holds.proofs.Vocabulary.{Arena, arena, Cell, Coordinating, Cycle, END, Entry, Ever, ever, EverValue, from_register, Good, HasState, IsBeside, IsInMarking, IsPlacedAt, Known, mark_of, mark_words, Marking, MarkingGood, Name, names, Op, processor_at, Reach, reference_of, reference_to, REGISTERS, row_bit, runs_are, Setup, TheReachedWereMade, view, White, Words, words}
 use Rattle.gh_marked.specs.Tied.{HasObject, IsOfHeap, IsTied, ShowsWhatThereIs, TiesShowWhatThereIs}
 
 module _ (setup : Setup) (known : Known) (es : List (Entry Op)) where
@@ -45,10 +45,15 @@ module _ (were_made : TheReachedWereMade) (setup : Setup) (es : List (Entry Op))
   object : (n : Name) → Reach v n → HasObject setup es s n
   object n r = grind arith
 
-  register : (g d : ℕ) (n : Name) → g < setup.layout.goroutines → d < REGISTERS → v.ended g ≡ false → v.register g d ≡ EverValue.Ref n → s.registers g d ≡ t.heap.place n + 1
+  told : (x : EverValue) (n : Name) → names x ≡ Some n → reference_of t.heap.place x ≡ reference_to t.heap.place n
+  told EverValue.Nil n is = absurd (cc)
+  told (EverValue.Int i) n is = absurd (cc)
+  told (EverValue.Ref m) n is = let same : m ≡ n = cc in ap (reference_to t.heap.place) same
+
+  register : (g d : ℕ) (n : Name) → g < setup.layout.goroutines → d < REGISTERS → v.ended g ≡ false → names (v.register g d) ≡ Some n → s.registers g d ≡ reference_to t.heap.place n
   register g d n lt few goes is =
       t.beside.registers g d lt few (subst (λ (e : Ever). e.ended g ≡ false) (sym t.ever_is) goes)
-      ∙ (ap (λ (e : Ever). reference_of t.heap.place (e.register g d)) t.ever_is ∙ ap (reference_of t.heap.place) is)
+      ∙ (ap (λ (e : Ever). reference_of t.heap.place (e.register g d)) t.ever_is ∙ told (v.register g d) n is)
 
   not_white : (a : ℕ) → row_bit (mark_words w) a ≡ 1 → s.colour a ≢ White
   not_white a set is =

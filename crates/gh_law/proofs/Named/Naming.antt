@@ -1,13 +1,13 @@
 -- In the heap that never frees each value names an object that was made.
-use Rattle.std.proofs.Common.{◌≡◌, ℕ, Bool, cond, List, Option, arith}
-use Rattle.gh_law.proofs.Vocabulary.{Act, acted, Answer, answer_of, answer_of_value, Ever, ever_after, is_number, IsMade, load_answer, Name, next_name, Op, opening_ever, Reach, sets_global, Shape, store_answer, stores_value, takes_answer, with_end, with_object, with_register}
+use Rattle.std.proofs.Common.{◌≡◌, ℕ, Bool, cond, List, Option, Some, arith}
+use Rattle.gh_law.proofs.Vocabulary.{Act, acted, Answer, answer_of, answer_of_value, Ever, ever_after, is_number, IsMade, load_answer, Name, names, next_name, Op, opening_ever, Reach, sets_global, Shape, store_answer, stores_value, takes_answer, with_end, with_object, with_register}
 use Rattle.gh_base.specs.declared.value.Fault.{Fault}
 use Rattle.gh_model.specs.declared.EverValue.{EverValue}
 
 pub record IsNamed (e : Ever) : Type 0 where
-  pub registers : (g d : ℕ) (n : Name) → e.register g d ≡ EverValue.Ref n → IsMade e.made n
-  pub fields : (m : Name) (k : ℕ) (n : Name) → e.field m k ≡ EverValue.Ref n → IsMade e.made n
-  pub globals : (k : ℕ) (n : Name) → e.global k ≡ EverValue.Ref n → IsMade e.made n
+  pub registers : (g d : ℕ) (n : Name) → names (e.register g d) ≡ Some n → IsMade e.made n
+  pub fields : (m : Name) (k : ℕ) (n : Name) → names (e.field m k) ≡ Some n → IsMade e.made n
+  pub globals : (k : ℕ) (n : Name) → names (e.global k) ≡ Some n → IsMade e.made n
 
 -- so what a script reaches was made
 pub reached-made : (e : Ever) → IsNamed e → (n : Name) → Reach e n → IsMade e.made n
@@ -18,7 +18,7 @@ named-opening = record { registers = λ g d n e. absurd (cc); fields = λ m k n 
 
 -- a value that names nothing, or an object that was made
 abbrev Made : Ever → EverValue → Type 0
-Made e x = (n : Name) → x ≡ EverValue.Ref n → IsMade e.made n
+Made e x = (n : Name) → names x ≡ Some n → IsMade e.made n
 
 named-register : (e : Ever) (g d : ℕ) (x : EverValue) → IsNamed e → Made e x → IsNamed (with_register e g d x)
 named-register e g d x h made = grind arith
@@ -44,7 +44,7 @@ module _ (shapes : List Shape) (e : Ever) (h : IsNamed e) where
   news : (g d t : ℕ) → IsNamed (with_register (with_object shapes e g t) g d (EverValue.Ref (next_name e g)))
   news g d t = grind arith
 
-  plain : (g d : ℕ) (x : EverValue) → ((n : Name) → x ≡ EverValue.Ref n → ⊥) → IsNamed (with_register e g d x)
+  plain : (g d : ℕ) (x : EverValue) → ((n : Name) → names x ≡ Some n → ⊥) → IsNamed (with_register e g d x)
   plain g d x none = grind arith
 
   -- what is answered as that heap answers it, or `full`

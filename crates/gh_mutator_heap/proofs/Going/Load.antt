@@ -1,7 +1,7 @@
 -- Steps of a load beside marking. At its point its register takes what the field held.
-use Rattle.std.proofs.Common.{◌≡◌, ℕ, ◌<◌, Bool, true, false, cond, Option, None, inl, inr, refl, ap, ◌∙◌, arith}
+use Rattle.std.proofs.Common.{◌≡◌, ℕ, ◌<◌, Bool, true, false, cond, Option, Some, None, inl, inr, refl, ap, ◌∙◌, arith}
 use Rattle.std.proofs.lemmas.Bool.{lt-ltb}
-use Rattle.gh_mutator_heap.proofs.Vocabulary.{acted, acting, Answer, answer_of_value, asks, at_task, Birth, Bits, Cycle, Deed, Ever, ever_by, EverValue, Fault, Field, FillsNone, follows, from_field, hand_behind, has_field, Heap, holding_only, InHand, IsBetween, Load, load_answer, Loads, LoadStage, Marking, MeetsByDeed, Name, NilBase, op_of, Page, Polling, Processor, Sets, size_for, Step, StepsOn, takes_answer, Task, TaskFacts, Together, view}
+use Rattle.gh_mutator_heap.proofs.Vocabulary.{acted, acting, Answer, answer_of_value, asks, at_task, Birth, Bits, Cycle, Deed, Ever, ever_by, EverValue, Fault, Field, FillsNone, follows, from_field, hand_behind, has_field, Heap, holding_only, InHand, IsBetween, Load, load_answer, Loads, LoadStage, Marking, MeetsByDeed, Name, names, NilBase, op_of, Page, Polling, Processor, Sets, size_for, Step, StepsOn, takes_answer, Task, TaskFacts, Together, view}
 use Rattle.gh_cycle.specs.Deeds.{Rests}
 use Rattle.gh_mutator.specs.Load.{at_stage, step}
 use Rattle.gh_mutator.specs.declared.step.Then.TheVariants.{Ends, GoesOn}
@@ -40,8 +40,10 @@ module _ (k : Known) (x : Load) (q : LoadStage) (z : Cycle) (a : ℕ) (h : Heap)
     rests : pending ≡ None → Quits now → MeetsByDeed z a h s (asks z.arena.layout here) Rests → Goes
     rests none quits meets = by Rests tt (λ hand. refl) (quits_rests z.arena.shapes h.ever (op_of x) pending l.after.does.after now (λ f. refl) none l.after.does.answers quits) meets
 
-load_found : (z : Cycle) (e : Ever) (v : EverValue) (n : Name) (k : ℕ) → v ≡ EverValue.Ref n → k < size_for z.arena.shapes e.type_of n → load_answer z.arena.shapes e v k ≡ answer_of_value (e.field n k)
-load_found z e v n k is few = rw (is, lt-ltb k (size_for z.arena.shapes e.type_of n) few) refl
+load_found : (z : Cycle) (e : Ever) (v : EverValue) (n : Name) (k : ℕ) → names v ≡ Some n → k < size_for z.arena.shapes e.type_of n → load_answer z.arena.shapes e v k ≡ answer_of_value (e.field n k)
+load_found z e EverValue.Nil n k is few = absurd (cc)
+load_found z e (EverValue.Int i) n k is few = absurd (cc)
+load_found z e (EverValue.Ref o) n k is few = let same : o ≡ n = cc in rw (same, lt-ltb k (size_for z.arena.shapes e.type_of n) few) refl
 
 at : Known → (x : Load) (q : LoadStage) → StepAt (Task.Load (at_stage x q))
 at k x Page z a h s m pending t kn l = rests k x Page z a h s m pending t l t.fine.task.unanswered (page_quits x (has_field x.k (found k x Page z a h s m pending t l))) (tt, fills k x Page z a h s m pending t l)

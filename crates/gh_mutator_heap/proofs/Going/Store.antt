@@ -1,7 +1,7 @@
 -- Steps of a store beside marking. A pointer is written behind the barrier; without it a number alone is.
-use Rattle.std.proofs.Common.{◌≡◌, ℕ, ◌+◌, ◌*◌, ◌%◌, ◌<◌, Bool, true, false, cond, Option, None, inr, refl, sym, ap, subst, ◌∙◌, arith}
+use Rattle.std.proofs.Common.{◌≡◌, ℕ, ◌+◌, ◌*◌, ◌%◌, ◌<◌, Bool, true, false, cond, Option, Some, None, inr, refl, sym, ap, subst, ◌∙◌, arith}
 use Rattle.std.proofs.lemmas.Bool.{lt-ltb}
-use Rattle.gh_mutator_heap.proofs.Vocabulary.{acted, acting, Answer, applied, Ask, at_task, BehindBarrier, Cell, Cycle, ends, Ever, EverValue, Facts, Fault, fits, goes_on, has_field, Heap, held_then, holding_only, Holds, is_number_value, is_pointer_by, IsBetween, IsClean, keeping, Keeps, kinds_differ, KnowsAtAnyTime, Mark, mark_words, MarkFacts, Marking, MayWrite, Means, Name, nothing, pointer_cell_at, PointerCell, PointerWrite, points, Processor, Puts, Reach, register_of, size_for, stacks_last, Step, StepsOn, Store, store_answer, Stores, stores, stores_value, StoreStage, Task, Together, Value, view, with_field, word_of_value, Words, WriteStage, written}
+use Rattle.gh_mutator_heap.proofs.Vocabulary.{acted, acting, Answer, applied, Ask, at_task, BehindBarrier, Cell, Cycle, ends, Ever, EverValue, Facts, Fault, fits, goes_on, has_field, Heap, held_then, holding_only, Holds, is_number_value, is_pointer_by, IsBetween, IsClean, keeping, Keeps, kinds_differ, KnowsAtAnyTime, Mark, mark_words, MarkFacts, Marking, MayWrite, Means, Name, names, nothing, pointer_cell_at, PointerCell, PointerWrite, points, Processor, Puts, Reach, register_of, size_for, stacks_last, Step, StepsOn, Store, store_answer, Stores, stores, stores_value, StoreStage, Task, Together, Value, view, with_field, word_of_value, Words, WriteStage, written}
 use Rattle.gh_barrier.specs.Giving as write_on
 use Rattle.gh_barrier.specs.Listing as write
 use Rattle.gh_model.specs.Ever.{from_register}
@@ -106,8 +106,15 @@ module _ (k : Known) (x : Store) (z : Cycle) (a : ℕ) (h : Heap) (s : Marking) 
         (bits_facts p (kinds_differ p held) (sym (kind_there k z a h s t.shapes t.heap t.marking t.beside f.n f.through.made reach x.k t.fine.task.1 x.at f.through.here)) refl)
 
 -- The field is written.
-store_kind : (z : Cycle) (e : Ever) (v w : EverValue) (n : Name) (k : ℕ) → v ≡ EverValue.Ref n → k < size_for z.arena.shapes e.type_of n → fits (points z.arena.shapes e.type_of n k) w ≡ true → store_answer z.arena.shapes e v k w ≡ Answer.Done
-store_kind z e v w n k is few f = rw (is, lt-ltb k (size_for z.arena.shapes e.type_of n) few, f) refl
+store_kind : (z : Cycle) (e : Ever) (v w : EverValue) (n : Name) (k : ℕ) → names v ≡ Some n → k < size_for z.arena.shapes e.type_of n → fits (points z.arena.shapes e.type_of n k) w ≡ true → store_answer z.arena.shapes e v k w ≡ Answer.Done
+store_kind z e EverValue.Nil w n k is few f = absurd (cc)
+store_kind z e (EverValue.Int i) w n k is few f = absurd (cc)
+store_kind z e (EverValue.Ref o) w n k is few f = let same : o ≡ n = cc in rw (same, lt-ltb k (size_for z.arena.shapes e.type_of n) few, f) refl
+
+stores_there : (e : Ever) (v w : EverValue) (n : Name) (k : ℕ) → names v ≡ Some n → stores_value e v k w Answer.Done ≡ with_field e n k w
+stores_there e EverValue.Nil w n k is = absurd (cc)
+stores_there e (EverValue.Int i) w n k is = absurd (cc)
+stores_there e (EverValue.Ref o) w n k is = let same : o ≡ n = cc in ap (λ (m : Name). with_field e m k w) same
 
 module _ (k : Known) (x : Store) (z : Cycle) (a : ℕ) (h : Heap) (s : Marking) (m : Processor) (pending : Option Answer) (q : StoreStage) (t : Together z a h s (at x q m) pending) (f : Stores z.arena a (view h) (at_stage x q) pending) (few : x.k < size_for z.arena.shapes h.ever.type_of f.n) (fit : fits (points z.arena.shapes h.ever.type_of f.n x.k) (h.ever.register x.g x.v) ≡ true) (known : KnowsAtAnyTime z.arena a (view h) m.poll) where
   abbrev stored : EverValue
@@ -123,7 +130,7 @@ module _ (k : Known) (x : Store) (z : Cycle) (a : ℕ) (h : Heap) (s : Marking) 
   means = known.registers x.g x.v f.through.runs.of f.register
 
   then_is : stores_value h.ever (h.ever.register x.g x.b) x.k stored (store_answer z.arena.shapes h.ever (h.ever.register x.g x.b) x.k stored) ≡ with_field h.ever f.n x.k stored
-  then_is = ap (λ (y : Answer). stores_value h.ever (h.ever.register x.g x.b) x.k stored y) (store_kind z h.ever (h.ever.register x.g x.b) stored f.n x.k f.through.names few fit) ∙ ap (λ (y : EverValue). stores_value h.ever y x.k stored Answer.Done) f.through.names
+  then_is = ap (λ (y : Answer). stores_value h.ever (h.ever.register x.g x.b) x.k stored y) (store_kind z h.ever (h.ever.register x.g x.b) stored f.n x.k f.through.names few fit) ∙ stores_there h.ever (h.ever.register x.g x.b) stored f.n x.k f.through.names
 
   cell_there : (x.at + x.k) % (1024 * z.arena.layout.pages) ≡ h.place f.n + x.k
   cell_there = word_there k z a h s t.shapes t.heap t.marking t.beside f.n f.through.made reach_it x.k few x.at f.through.here

@@ -1,5 +1,6 @@
 -- A write behind the barrier, beside marking: where it begins, its steps before the last, and what it has in hand.
-use Rattle.std.proofs.Common.{◌≡◌, ℕ, ◌+◌, ◌*◌, ◌/◌, ◌%◌, ◌<◌, Bool, true, eqb, Option, refl, sym, ap, subst, ◌∙◌, arith}
+use Rattle.std.proofs.Common.{◌≡◌, ℕ, ◌+◌, ◌-◌, ◌*◌, ◌/◌, ◌%◌, ◌<◌, Bool, true, false, eqb, Option, refl, sym, ap, subst, ◌∙◌, arith}
+use Rattle.std.proofs.lemmas.Bool.{ne_eqb}
 use Rattle.gh_mutator_heap.proofs.Vocabulary.{acted, acts, Answer, Ask, asks, bit, bit_at, Cell, cell_of, Cycle, effect, EverValue, Facts, FillsNone, has_entries, HasTwo, Heap, HeapGood, is_pointer_by, IsBeside, IsBetween, IsCell, IsKnownPointer, IsMade, IsReached, IsWriting, Keeps, Mark, MarkFacts, Marking, Means, mod-eq_of_lt, Name, nothing, pointer_of, PointerCell, points, Polling, Processor, Reach, ShapesAreGood, size_for, StepsOn, Together, Value, view, Words, Writing, written}
 use Rattle.gh_barrier.specs.Listing as write
 use Rattle.gh_mutator.specs.MarkVocabulary.{Good, KnowsObjects, Steps}
@@ -38,7 +39,15 @@ module _ (k : Known) (z : Cycle) (a : ℕ) (h : Heap) (s : Marking) (shapes : Sh
 
   -- what is written is nil, or an object of the cycle
   pub known_pointer : (v : EverValue) (y : Value) → IsReached h.ever v → Means h.place h.ever.made v y → IsKnownPointer s (pointer_of y)
-  known_pointer v y reached means = grind arith
+  known_pointer v Value.Nil reached means = tt
+  known_pointer v (Value.Int i) reached means = tt
+  known_pointer EverValue.Nil (Value.Ref r) reached means = absurd means
+  known_pointer (EverValue.Int i) (Value.Ref r) reached means = absurd means
+  known_pointer (EverValue.Ref n) (Value.Ref r) reached means =
+      let is = means.0 in
+      let some : eqb r 0 ≡ false = ne_eqb r 0 (λ q. omega (arith, is, q)) in
+      let at : r - 1 ≡ h.place n = omega (arith, is) in
+      rw some (omega (arith, is), ap s.since at ∙ beside.reached n (reached n refl))
 
   pub write_begins : (p : Polling) (at : PointerCell) (y : Value) → IsCell s at → IsKnownPointer s (pointer_of y) → HasTwo p.local.held → IsBetween z a s p.local → IsWriting z a s p.local (written p.local at y)
   write_begins p at y there known two b = record {

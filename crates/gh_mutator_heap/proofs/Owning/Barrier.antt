@@ -63,7 +63,7 @@ module _ (laws : Known) (z : Arena) (v : View) (good : Good z v) where
   names_fit x (Value.Int n) reached h = tt
   names_fit EverValue.Nil (Value.Ref r) reached h = absurd h
   names_fit (EverValue.Int i) (Value.Ref r) reached h = absurd h
-  names_fit (EverValue.Ref n) (Value.Ref r) reached h = let below = placed_below laws z v good n h.1 reached in let is = h.0 in by (eqb r 0) (omega arith) (omega arith) where
+  names_fit (EverValue.Ref n) (Value.Ref r) reached h = let below = placed_below laws z v good n h.1 (reached n refl) in let is = h.0 in by (eqb r 0) (omega arith) (omega arith) where
     by : (b : Bool) → 1 ≤ r → r ≤ 1024 * z.layout.pages → FitsPointer z.layout (cond b None (Some r))
     by true some within = tt
     by false some within = record { some = some; within = within }

@@ -1,6 +1,6 @@
 -- Where an operation begins, what is known of the processor is what its first stage says.
-use Rattle.std.proofs.Common.{◌≡◌, ℕ, ◌<◌, Bool, true, false, cond, None, refl, ap, subst, arith}
-use Rattle.gh_mutator_heap.proofs.Vocabulary.{Arena, Begins, begins, EverValue, GlobalFacts, GlobalStage, Good, GoroutineRuns, is_busy_at, is_mark, is_number, is_number_value, LoadFacts, MayBegin, Means, Op, PointerCell, Polling, Processor, ProcessorFacts, register_of, REGISTERS, ShapesAreGood, StoreFacts, Task, Value, View, wanted_of, written}
+use Rattle.std.proofs.Common.{◌≡◌, ℕ, ◌-◌, ◌<◌, Bool, true, false, cond, None, refl, sym, ap, subst, arith}
+use Rattle.gh_mutator_heap.proofs.Vocabulary.{Arena, Begins, begins, EverValue, GlobalFacts, GlobalStage, Good, GoroutineRuns, is_busy_at, is_mark, is_number, is_number_value, IsPlain, LoadFacts, MayBegin, Means, Name, names, Op, PointerCell, Polling, Processor, ProcessorFacts, register_of, REGISTERS, ShapesAreGood, StoreFacts, Task, Through, Value, View, wanted_of, written}
 use Rattle.gh_mutator.specs.Global as global
 use Rattle.gh_mutator.specs.Load as load
 use Rattle.gh_mutator.specs.Serving.{has_left_at}
@@ -12,11 +12,33 @@ use Rattle.gh_mutator_heap.proofs.Owning.Searching.{seek-begins}
 use Rattle.gh_mutator_heap.proofs.Owning.Steady.{goroutine_few, HasCached, Steady}
 
 module _ (z : Arena) (a : ℕ) (v : View) where
+  plain : (g b : ℕ) (x : EverValue) → v.ever.register g b ≡ x → IsPlain x → IsPlain (v.ever.register g b)
+  plain g b x is p = subst (λ (w : EverValue). IsPlain w) (sym is) p
+
+  through : (g b : ℕ) (n : Name) (w : ℕ) → GoroutineRuns z v a g → b < REGISTERS → v.ever.register g b ≡ EverValue.Ref n → Means v.place v.ever.made (EverValue.Ref n) (Value.Ref w) → Through z a v g b (w - 1) n
+  through g b n w r low is h = record { runs = r; register = low; names = ap names is; made = h.1; here = let at = h.0 in omega (arith, at) }
+
   begin_load : (g d b k : ℕ) (x : EverValue) (y : Value) → GoroutineRuns z v a g → d < REGISTERS → b < REGISTERS → v.ever.register g b ≡ x → Means v.place v.ever.made x y → LoadFacts z a v (load.begins g d b k y) None (load.begins g d b k y).stage
-  begin_load g d b k x y r ld lb is h = grind arith
+  begin_load g d b k EverValue.Nil Value.Nil r ld lb is h = (r, lb, plain g b EverValue.Nil is tt, refl)
+  begin_load g d b k (EverValue.Int i) (Value.Int j) r ld lb is h = (r, lb, plain g b (EverValue.Int i) is tt, refl)
+  begin_load g d b k (EverValue.Ref n) (Value.Ref w) r ld lb is h = record { n = n; through = through g b n w r lb is h; register = ld; unanswered = refl }
+  begin_load g d b k EverValue.Nil (Value.Int j) r ld lb is h = absurd h
+  begin_load g d b k EverValue.Nil (Value.Ref w) r ld lb is h = absurd h
+  begin_load g d b k (EverValue.Int i) Value.Nil r ld lb is h = absurd h
+  begin_load g d b k (EverValue.Int i) (Value.Ref w) r ld lb is h = absurd h
+  begin_load g d b k (EverValue.Ref n) Value.Nil r ld lb is h = absurd h
+  begin_load g d b k (EverValue.Ref n) (Value.Int j) r ld lb is h = absurd h
 
   begin_store : (p : Polling) (g b k u : ℕ) (x : EverValue) (y : Value) → GoroutineRuns z v a g → b < REGISTERS → u < REGISTERS → v.ever.register g b ≡ x → Means v.place v.ever.made x y → StoreFacts z a v p (store.begins g b k u y) None (store.begins g b k u y).stage
-  begin_store p g b k u x y r lb lu is h = grind arith
+  begin_store p g b k u EverValue.Nil Value.Nil r lb lu is h = (r, lb, plain g b EverValue.Nil is tt, refl)
+  begin_store p g b k u (EverValue.Int i) (Value.Int j) r lb lu is h = (r, lb, plain g b (EverValue.Int i) is tt, refl)
+  begin_store p g b k u (EverValue.Ref n) (Value.Ref w) r lb lu is h = record { n = n; through = through g b n w r lb is h; register = lu; unanswered = refl }
+  begin_store p g b k u EverValue.Nil (Value.Int j) r lb lu is h = absurd h
+  begin_store p g b k u EverValue.Nil (Value.Ref w) r lb lu is h = absurd h
+  begin_store p g b k u (EverValue.Int i) Value.Nil r lb lu is h = absurd h
+  begin_store p g b k u (EverValue.Int i) (Value.Ref w) r lb lu is h = absurd h
+  begin_store p g b k u (EverValue.Ref n) Value.Nil r lb lu is h = absurd h
+  begin_store p g b k u (EverValue.Ref n) (Value.Int j) r lb lu is h = absurd h
 
   module _ (laws : Known) (good : Good z v) (m : Processor) (g k u : ℕ) (st : Steady z a v m) (runs : GoroutineRuns z v a g) (low : u < REGISTERS) (there : k < z.layout.globals) where
     abbrev held : Value

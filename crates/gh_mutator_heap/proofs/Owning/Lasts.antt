@@ -1,6 +1,6 @@
 -- What is known of a processor lasts, whatever others do.
-use Rattle.std.proofs.Common.{◌≡◌, ℕ, ◌<◌, Bool, true, List, Option, sym, subst, ◌∙◌, arith}
-use Rattle.gh_mutator_heap.proofs.Vocabulary.{Answer, Arena, Assist, EverValue, FactsAt, field_count, fits, for_whom, Freeing, freeing_new, Global, GlobalFacts, GlobalStage, Good, GoroutineRuns, HasAt, held_new, is_pointer, IsOf, IsPlain, KnowsAt, KnowsCounts, KnowsNew, Lasts, Laying, laying_new, Load, LoadFacts, Loads, LoadStage, locked_new, Makes, MOST_STATEMENTS, Name, NewFacts, NewStage, Others, Placing, Polling, Processor, Register, RegisterFacts, rest, Rests, Rights, Search, Searches, Seeking, shape_at, Source, Store, StoreFacts, Stores, StoreStage, Task, Through, View, Wait, waiting, Want, Wanted, Wants}
+use Rattle.std.proofs.Common.{◌≡◌, ℕ, ◌<◌, Bool, true, List, Option, sym, ap, subst, ◌∙◌, arith}
+use Rattle.gh_mutator_heap.proofs.Vocabulary.{Answer, Arena, Assist, EverValue, FactsAt, field_count, fits, for_whom, Freeing, freeing_new, Global, GlobalFacts, GlobalStage, Good, GoroutineRuns, HasAt, held_new, is_pointer, IsOf, IsPlain, KnowsAt, KnowsCounts, KnowsNew, Lasts, Laying, laying_new, Load, LoadFacts, Loads, LoadStage, locked_new, Makes, MOST_STATEMENTS, Name, names, NewFacts, NewStage, Others, Placing, Polling, Processor, Register, RegisterFacts, rest, Rests, Rights, Search, Searches, Seeking, shape_at, Source, Store, StoreFacts, Stores, StoreStage, Task, Through, View, Wait, waiting, Want, Wanted, Wants}
 use Rattle.gh_mutator_heap.proofs.Owning.Vocabulary.{Takes}
 use Rattle.gh_alloc.specs.SearchFacts as search
 use Rattle.gh_mutator.specs.declared.new.NewStage.TheVariants.{Place}
@@ -27,7 +27,7 @@ module _ (z : Arena) (a : ℕ) (v w : View) (o : Others z a v w) where
   runs_lasts g r = record { of = r.of; goes_on = o.ends g r.of ∙ r.goes_on }
 
   through_lasts : (g b at : ℕ) (n : Name) → Through z a v g b at n → Through z a w g b at n
-  through_lasts g b at n t = record { runs = runs_lasts g t.runs; register = t.register; names = o.registers g b t.runs.of ∙ t.names; made = o.made n t.made; here = t.here ∙ sym (o.places n t.made) }
+  through_lasts g b at n t = record { runs = runs_lasts g t.runs; register = t.register; names = ap names (o.registers g b t.runs.of) ∙ t.names; made = o.made n t.made; here = t.here ∙ sym (o.places n t.made) }
 
   takes_lasts : (g d at : ℕ) (pending : Option Answer) → Takes z a v g d at pending → Takes z a w g d at pending
   takes_lasts g d at pending t = record { n = t.n; through = through_lasts g d at t.n t.through; answers = t.answers }

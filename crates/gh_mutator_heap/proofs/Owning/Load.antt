@@ -1,7 +1,7 @@
 -- Own steps of a load while others change the heap. At its point its register takes what the field held.
 use Rattle.std.proofs.Common.{◌≡◌, ℕ, ◌<◌, Bool, true, false, cond, ltb, [], ◌∷◌, Option, Some, None, refl, sym, ap, subst, arith}
 use Rattle.std.proofs.lemmas.Bool.{ltb-true, lt-ltb}
-use Rattle.gh_mutator_heap.proofs.Vocabulary.{Answer, answer_of, answer_of_value, Arena, asks, at_task, Birth, Bits, cell_of, Does, ends, Ever, EverValue, Fault, Field, goes_on, Good, has_field, IsPlain, Load, load_answer, Loads, LoadStage, Name, NilBase, op_of, OwnStepAt, Page, page_of, points, Processor, ProcessorFacts, Quiet, Reach, Shared, size_for, slot_in, Step, Steps, Task, Through, value_of, view}
+use Rattle.gh_mutator_heap.proofs.Vocabulary.{Answer, answer_of, answer_of_value, Arena, asks, at_task, Birth, Bits, cell_of, Does, ends, Ever, EverValue, Fault, Field, goes_on, Good, has_field, IsPlain, Load, load_answer, Loads, LoadStage, Name, names, NilBase, op_of, OwnStepAt, Page, page_of, points, Processor, ProcessorFacts, Quiet, Reach, Shared, size_for, slot_in, Step, Steps, Task, Through, value_of, view}
 use Rattle.gh_heap.specs.Moves as moves
 use Rattle.gh_mutator.specs.Load.{at_stage, naming, step}
 use Rattle.gh_mutator_heap.proofs.Owning.Known.{Known}
@@ -18,11 +18,15 @@ module _ (laws : Known) (z : Arena) (a : ℕ) (s : Shared) (m : Processor) (x : 
 
   -- what it is answered
 
-  load_found : (v : EverValue) (n : Name) (k : ℕ) → v ≡ EverValue.Ref n → k < size n → load_answer z.shapes e v k ≡ answer_of_value (e.field n k)
-  load_found v n k is few = rw (is, lt-ltb k (size n) few) refl
+  load_found : (v : EverValue) (n : Name) (k : ℕ) → names v ≡ Some n → k < size n → load_answer z.shapes e v k ≡ answer_of_value (e.field n k)
+  load_found EverValue.Nil n k is few = absurd (cc)
+  load_found (EverValue.Int i) n k is few = absurd (cc)
+  load_found (EverValue.Ref o) n k is few = let same : o ≡ n = cc in rw (same, lt-ltb k (size n) few) refl
 
-  load_past : (v : EverValue) (n : Name) (k : ℕ) → v ≡ EverValue.Ref n → ltb k (size n) ≡ false → load_answer z.shapes e v k ≡ Answer.Fault Fault.Field
-  load_past v n k is over = rw (is, over) refl
+  load_past : (v : EverValue) (n : Name) (k : ℕ) → names v ≡ Some n → ltb k (size n) ≡ false → load_answer z.shapes e v k ≡ Answer.Fault Fault.Field
+  load_past EverValue.Nil n k is over = absurd (cc)
+  load_past (EverValue.Int i) n k is over = absurd (cc)
+  load_past (EverValue.Ref o) n k is over = let same : o ≡ n = cc in rw (same, over) refl
 
   plain_load : (v : EverValue) (k : ℕ) → IsPlain v → load_answer z.shapes e v k ≡ Answer.Fault Fault.NilBase
   plain_load v k h = grind arith

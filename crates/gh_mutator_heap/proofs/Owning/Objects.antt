@@ -1,8 +1,8 @@
 -- What the words tell of an object that a script reaches, and what a value is to its word. Of the heap it is known what the laws of gh_heap say.
-use Rattle.std.proofs.Common.{◌≡◌, ℕ, ◌+◌, ◌-◌, ◌*◌, ◌/◌, ◌%◌, ◌^◌, ◌<◌, ◌≤◌, Bool, true, false, cond, eqb, inl, inr, refl, sym, ap, subst, ◌∙◌, arith}
+use Rattle.std.proofs.Common.{◌≡◌, ℕ, ◌+◌, ◌-◌, ◌*◌, ◌/◌, ◌%◌, ◌^◌, ◌<◌, ◌≤◌, Bool, true, false, cond, eqb, Some, inl, inr, refl, sym, ap, subst, ◌∙◌, arith}
 use Rattle.std.proofs.lemmas.Bool.{ne_eqb}
 use Rattle.std.proofs.lemmas.Bool.Decides.{eqb_tells}
-use Rattle.gh_mutator_heap.proofs.Vocabulary.{answer_of_value, Arena, bit, bit_at, Ever, EverValue, fits, Good, Holds, InSlot, is_number, is_own_class, is_pointer_by, IsMade, IsReached, IsSizeClass, Means, mod-eq_of_lt, Name, name_of, number_of_class, page_class, page_of, page_pages, Place, Placed, points, Reach, size_for, SizeClass, slot_count, slot_for, slot_in, slot_of, slot_size, takes_answer, Value, value_of, View, with_register, word_of_value}
+use Rattle.gh_mutator_heap.proofs.Vocabulary.{answer_of_value, Arena, bit, bit_at, Ever, EverValue, fits, Good, Holds, InSlot, is_number, is_own_class, is_pointer_by, IsMade, IsReached, IsSizeClass, Means, mod-eq_of_lt, Name, name_of, names, number_of_class, page_class, page_of, page_pages, Place, Placed, points, Reach, size_for, SizeClass, slot_count, slot_for, slot_in, slot_of, slot_size, takes_answer, Value, value_of, View, with_register, word_of_value}
 use Rattle.gh_mutator_heap.proofs.Owning.Known.{Known}
 
 -- ---- the words of an object
@@ -90,28 +90,23 @@ module _ (laws : Known) (z : Arena) (v : View) (good : Good z v) (n : Name) (was
 
 -- a value of a register, or of a field of what is reached, is reached
 pub register_reached : (e : Ever) (g d : ℕ) → e.ended g ≡ false → (x : EverValue) → e.register g d ≡ x → IsReached e x
-register_reached e g d goes_on EverValue.Nil is = tt
-register_reached e g d goes_on (EverValue.Int i) is = tt
-register_reached e g d goes_on (EverValue.Ref n) is = Reach.from_register g d n goes_on is
+register_reached e g d goes_on x is n named = Reach.from_register g d n goes_on (ap names is ∙ named)
 
 pub global_reached : (e : Ever) (k : ℕ) (v : EverValue) → e.global k ≡ v → IsReached e v
-global_reached e k EverValue.Nil is = tt
-global_reached e k (EverValue.Int n) is = tt
-global_reached e k (EverValue.Ref n) is = Reach.from_global k n is
+global_reached e k v is n named = Reach.from_global k n (ap names is ∙ named)
 
 pub field_reached : (e : Ever) (n : Name) (k : ℕ) → Reach e n → (x : EverValue) → e.field n k ≡ x → IsReached e x
-field_reached e n k reach EverValue.Nil is = tt
-field_reached e n k reach (EverValue.Int i) is = tt
-field_reached e n k reach (EverValue.Ref r) is = Reach.from_field n k r reach is
+field_reached e n k reach x is r named = Reach.from_field n k r reach (ap names is ∙ named)
 
 -- ---- values
 
 -- a found word of a field means what the field holds
-found_means : (pages : ℕ) (place : Place) (made : ℕ → ℕ) (p : Bool) (x : EverValue) (word : ℕ) → ((n : Name) → x ≡ EverValue.Ref n → IsMade made n → place n < 1024 * pages) → Holds place made p x word → Means place made x (value_of pages p word)
+found_means : (pages : ℕ) (place : Place) (made : ℕ → ℕ) (p : Bool) (x : EverValue) (word : ℕ) → ((n : Name) → names x ≡ Some n → IsMade made n → place n < 1024 * pages) → Holds place made p x word → Means place made x (value_of pages p word)
 found_means pages place made p EverValue.Nil word within h = rw (h.0, h.1) tt
 found_means pages place made p (EverValue.Int i) word within h = rw (h.0) (sym h.1)
 found_means pages place made p (EverValue.Ref n) word within h =
-    rw (h.0, h.1)
+    let at : word ≡ place n + 1 = h.1 in
+    rw (h.0, at)
     (let ne : eqb (place n + 1) 0 ≡ false = ne_eqb (place n + 1) 0 (λ q. omega arith) in
     let is : (place n + 1 - 1) % (1024 * pages) ≡ place n = ap (λ (y : ℕ). y % (1024 * pages)) (back (place n)) ∙ mod-eq_of_lt (within n refl h.2) in
     rw (ne, is) (refl, h.2)) where

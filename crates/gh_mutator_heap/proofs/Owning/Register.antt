@@ -10,7 +10,7 @@ use Rattle.gh_mutator_heap.proofs.Owning.Steady.{Steady}
 step_from : (g d : ℕ) (from : Source) → StepAt (Task.Register (begins g d from))
 step_from g d (Source.Int n) z a s m pending shapes good x = record {
   move = Takes (Ask.Load Cell.Touch) g d (EverValue.Int n);
-  may = (tt, x.task.0, x.task.1, tt);
+  may = (tt, x.task.0, x.task.1, λ n is. absurd (cc));
   words_are = refl;
   after = record {
     after = None;
@@ -38,7 +38,7 @@ step_from g d (Source.Move r) z a s m pending shapes good x =
     }
 step_from g d Source.Nil z a s m pending shapes good x = record {
   move = Takes (Ask.Load Cell.Touch) g d EverValue.Nil;
-  may = (tt, x.task.0, x.task.1, tt);
+  may = (tt, x.task.0, x.task.1, λ n is. absurd (cc));
   words_are = refl;
   after = record {
     after = None;

@@ -4,6 +4,7 @@ use Rattle.std.proofs.lemmas.Bool.{eq-eqb}
 use Rattle.gh_mutator_heap.proofs.Vocabulary.{Act, acted, acting, Answer, answer_of, answer_of_value, answered, answered_at, applied, Arena, Ask, asks, at_task, Cell, cell_of, Does, ends, ever_after, EverValue, follows, goes_on, Good, GoroutineRuns, Idle, IsOf, lists, Means, moved, Op, option_to_list, OwnStepAt, Processor, ProcessorFacts, REGISTERS, Right, set_register, ShapesAreGood, Shared, Step, Steps, Task, Value, value_told, View, view, with_register}
 use Rattle.gh_mutator_heap.proofs.Owning.Vocabulary.{Takes}
 use Rattle.gh_heap.specs.Moves as moves
+use Rattle.gh_model.specs.Ever as model
 use Rattle.gh_mutator.specs.Fields.{takes}
 use Rattle.gh_mutator_heap.proofs.Owning.Known.{Known}
 use Rattle.gh_mutator_heap.proofs.Owning.Steady.{HasCached, rights_with, Steady, steady_register}
@@ -85,7 +86,7 @@ module _ (S : Type 0) (into : S → Task) (z : Arena) (a : ℕ) (s : Shared) (m 
       fine_then (EverValue.Int i) (Value.Int j) h st ri = idle z a (then (EverValue.Int i)) (set_register m g d (Value.Int j)) st ri
       fine_then (EverValue.Ref n) (Value.Ref r) h st ri = names (r - 1) (then (EverValue.Ref n)) (set_register m g d (Value.Ref r)) (Some (Answer.Ref n)) st ri (record {
         n = n;
-        through = record { runs = record { of = runs.of; goes_on = runs.goes_on }; register = few; names = here (EverValue.Ref n); made = h.1; here = let is = h.0 in omega arith };
+        through = record { runs = record { of = runs.of; goes_on = runs.goes_on }; register = few; names = ap model.names (here (EverValue.Ref n)); made = h.1; here = let is = h.0 in omega arith };
         answers = refl;
       })
       fine_then EverValue.Nil (Value.Int j) h st ri = absurd h

@@ -1,7 +1,7 @@
 -- Own steps of a store while others change the heap. At its point the field takes what its register holds.
 use Rattle.std.proofs.Common.{◌≡◌, ℕ, ◌+◌, ◌*◌, ◌%◌, ◌<◌, ◌⊎◌, Bool, true, false, not, cond, ltb, [], ◌∷◌, Option, Some, None, inl, inr, refl, sym, ap, subst, ◌∙◌, arith, ◌&&◌}
 use Rattle.std.proofs.lemmas.Bool.{ltb-true, lt-ltb}
-use Rattle.gh_mutator_heap.proofs.Vocabulary.{Answer, answer_of, Arena, Ask, asks, at_task, Cell, cell_of, Does, ends, Ever, ever_after, EverValue, Fault, field_cell, fits, goes_on, Good, has_field, Held, held_then, is_mark, is_number_value, is_pointer_by, IsPlain, keeping, kinds_differ, lists, Means, mod-lt, moved, Name, OwnStepAt, page_of, Place, pointer_cell_at, PointerCell, PointerWrite, points, Processor, ProcessorFacts, put, Quiet, Reach, register_of, Shared, size_for, slot_in, Step, Steps, Store, store_answer, StoreFacts, Stores, stores, stores_value, StoreStage, Task, Through, Value, View, view, with_field, word_of_value, Write, WritesIt, written}
+use Rattle.gh_mutator_heap.proofs.Vocabulary.{Answer, answer_of, Arena, Ask, asks, at_task, Cell, cell_of, Does, ends, Ever, ever_after, EverValue, Fault, field_cell, fits, goes_on, Good, has_field, Held, held_then, is_mark, is_number_value, is_pointer_by, IsPlain, keeping, kinds_differ, lists, Means, mod-lt, moved, Name, names, OwnStepAt, page_of, Place, pointer_cell_at, PointerCell, PointerWrite, points, Processor, ProcessorFacts, put, Quiet, Reach, register_of, Shared, size_for, slot_in, Step, Steps, Store, store_answer, StoreFacts, Stores, stores, stores_value, StoreStage, Task, Through, Value, View, view, with_field, word_of_value, Write, WritesIt, written}
 use Rattle.gh_barrier.specs.Listing as write
 use Rattle.gh_mutator.specs.declared.store.StoreStage.TheVariants.{Page, Bits, Field, Writing, NilBase}
 use Rattle.gh_mutator.specs.Store.{after_write, at_stage, held_behind, op_of, step}
@@ -35,11 +35,21 @@ module _ (laws : Known) (z : Arena) (a : ℕ) (s : Shared) (m : Processor) (x : 
 
   -- what it is answered
 
-  store_past : (v : EverValue) (n : Name) → v ≡ EverValue.Ref n → ltb x.k (size n) ≡ false → store_answer z.shapes e v x.k stored ≡ Answer.Fault Fault.Field
-  store_past v n is over = rw (is, over) refl
+  store_past : (v : EverValue) (n : Name) → names v ≡ Some n → ltb x.k (size n) ≡ false → store_answer z.shapes e v x.k stored ≡ Answer.Fault Fault.Field
+  store_past EverValue.Nil n is over = absurd (cc)
+  store_past (EverValue.Int i) n is over = absurd (cc)
+  store_past (EverValue.Ref o) n is over = let same : o ≡ n = cc in rw (same, over) refl
 
-  store_kind : (v w : EverValue) (n : Name) (b : Bool) → v ≡ EverValue.Ref n → x.k < size n → fits (kind n) w ≡ b → store_answer z.shapes e v x.k w ≡ cond b Answer.Done (Answer.Fault Fault.Kind)
-  store_kind v w n b is few f = rw (is, lt-ltb x.k (size n) few, f) refl
+  store_kind : (v w : EverValue) (n : Name) (b : Bool) → names v ≡ Some n → x.k < size n → fits (kind n) w ≡ b → store_answer z.shapes e v x.k w ≡ cond b Answer.Done (Answer.Fault Fault.Kind)
+  store_kind EverValue.Nil w n b is few f = absurd (cc)
+  store_kind (EverValue.Int i) w n b is few f = absurd (cc)
+  store_kind (EverValue.Ref o) w n b is few f = let same : o ≡ n = cc in rw (same, lt-ltb x.k (size n) few, f) refl
+
+  -- what it changes
+  stores_there : (v w : EverValue) (n : Name) → names v ≡ Some n → stores_value e v x.k w Answer.Done ≡ with_field e n x.k w
+  stores_there EverValue.Nil w n is = absurd (cc)
+  stores_there (EverValue.Int i) w n is = absurd (cc)
+  stores_there (EverValue.Ref o) w n is = let same : o ≡ n = cc in ap (λ (m : Name). with_field e m x.k w) same
 
   plain_store : (v : EverValue) → IsPlain v → store_answer z.shapes e v x.k stored ≡ Answer.Fault Fault.NilBase
   plain_store v h = grind arith
@@ -132,7 +142,7 @@ module _ (laws : Known) (z : Arena) (a : ℕ) (s : Shared) (m : Processor) (x : 
       is = store_kind (e.register x.g x.b) stored l.n true l.through.names few fit
 
       next : ever_after z.shapes e (op_of x) (answer_of z.shapes e (op_of x)) ≡ with_field e l.n x.k stored
-      next = ap (λ (y : Answer). ever_after z.shapes e (op_of x) y) is ∙ ap (λ (y : EverValue). stores_value e y x.k stored Answer.Done) l.through.names
+      next = ap (λ (y : Answer). ever_after z.shapes e (op_of x) y) is ∙ stores_there (e.register x.g x.b) stored l.n l.through.names
 
       lands : (h : Option Held) → Steady z a (view s) (keeping m h) → ToWith h t None (ends Answer.Done)
       unfolding t
