@@ -1,8 +1,7 @@
 -- What is known at each stage of the writing of a pointer while marking is on. Others may store to the same cell at any moment: so it is never known that what was loaded stands there still, but that it does or that a value behind another's barrier has come in its place, which is marked.
 use Rattle.std.specs.Prelude.{◌≡◌, ℕ, ◌+◌, ◌≤◌, ◌⊎◌, true, Option, Some, None}
 use Rattle.gh_barrier.specs.Vocabulary.{Cell, Ended, Field, Global, HasPlace, Held, Layout, LoadOld, PointerCell, ShadeNew, ShadeOld, Store, WriteStage}
-use Rattle.gh_base.specs.Rows.{mark_words}
-use Rattle.gh_marks.specs.Colours.{Cycle, IsClean, IsPointer, Shared}
+use Rattle.gh_marks.specs.Colours.{Cycle, IsClean, IsPointer, seen_word, Shared}
 use Rattle.gh_marks.specs.Moves.{BehindBarrier, Move, PutField, PutGlobal, Steps, moved}
 use Rattle.gh_marks.specs.Routines.{KeepsItsFacts}
 use Rattle.gh_marks.specs.Seats.{Hands, InHand}
@@ -29,22 +28,26 @@ abbrev pub put_of : PointerCell → (value : ℕ) → Move
 put_of (Field x) value = PutField x value
 put_of (Global i) value = PutGlobal i value
 
--- nil, or an object of the cycle
+-- nil, or what names an object of the cycle
 abbrev pub IsKnownPointer : Shared → (pointer : Option ℕ) → Type 0
 IsKnownPointer s None = Unit {0}
-IsKnownPointer s (Some reference) = (1 ≤ reference) × (s.since (object_of reference) ≡ true)
+IsKnownPointer s (Some reference) = (1 ≤ reference) × (s.since (s.extents.base (object_of reference)) ≡ true)
+
+-- what marking sees of the cell
+abbrev pub seen_at : Shared → Cell → ℕ
+seen_at s c = seen_word s.extents.base (s.words c)
 
 -- what was loaded stands there still, or the value that came in its place is clean
 abbrev pub OldValueStands : Shared → Cell → (reference : ℕ) → Type 0
-OldValueStands s c reference = (s.words c ≡ reference) ⊎ IsClean (mark_words s.words) (s.words c)
+OldValueStands s c reference = (seen_at s c ≡ seen_word s.extents.base reference) ⊎ IsClean s.colour (seen_at s c)
 
 -- a shading that it runs has not ended
 abbrev pub StageFacts : Cycle → (a : ℕ) → Shared → InHand → Writing → WriteStage → Type 0
 StageFacts z a s rest w LoadOld = HasTwo w.held × Hands a s (in_hand rest w.held None)
 StageFacts z a s rest w (ShadeOld sh) = HasTwo sh.held × OldValueStands s (cell_at w.at) sh.reference × shade_facts.Facts z a s rest sh × (is_busy sh.stage ≡ true)
 -- the old value is shaded: from here on the cell holds nothing white, whoever stores to it
-StageFacts z a s rest w (ShadeNew sh) = HasPlace sh.held × IsClean (mark_words s.words) (s.words (cell_at w.at)) × (w.pointer ≡ Some sh.reference) × shade_facts.Facts z a s rest sh × (is_busy sh.stage ≡ true)
-StageFacts z a s rest w Store = IsClean (mark_words s.words) (s.words (cell_at w.at)) × IsClean (mark_words s.words) (pointer_word w.pointer) × Hands a s (in_hand rest w.held None)
+StageFacts z a s rest w (ShadeNew sh) = HasPlace sh.held × IsClean s.colour (seen_at s (cell_at w.at)) × (w.pointer ≡ Some sh.reference) × shade_facts.Facts z a s rest sh × (is_busy sh.stage ≡ true)
+StageFacts z a s rest w Store = IsClean s.colour (seen_at s (cell_at w.at)) × IsClean s.colour (seen_word s.extents.base (pointer_word w.pointer)) × Hands a s (in_hand rest w.held None)
 StageFacts z a s rest w Ended = Hands a s (in_hand rest w.held None)
 
 -- it writes to a pointer cell, and what it writes is nil or an object of the cycle
@@ -60,7 +63,7 @@ module _ (z : Cycle) (a : ℕ) (s : Shared) (rest : InHand) where
 
   -- where it stores, the value that it overwrites then and the one that it writes are marked, if they are not nil
   abbrev pub Stores : Type 0
-  Stores = (w : Writing) → w.stage ≡ Store → Facts z a s rest w → BehindBarrier s (s.words (cell_at w.at)) (pointer_word w.pointer)
+  Stores = (w : Writing) → w.stage ≡ Store → Facts z a s rest w → BehindBarrier s (seen_at s (cell_at w.at)) (seen_word s.extents.base (pointer_word w.pointer))
 
   -- and that step is this move, and nothing besides
   abbrev pub StoresBy : Type 0

@@ -2,6 +2,7 @@
 use Rattle.std.proofs.Common.{◌≡◌, ℕ, ◌+◌, ◌-◌, ◌*◌, ◌%◌, ◌<◌, ◌≤◌, Bool, true, false, cond, ltb, Some, inl, inr, refl, sym, ap, subst, arith, ◌∙◌}
 use Rattle.std.proofs.lemmas.Bool.{ltb-true, ltb-false}
 use Rattle.gh_cycle.proofs.Vocabulary.{alloc_words, Arena, bit_at-zero, Cell, Cycle, CyclesOpen, Decided, END, eqb_tells, EverValue, Extents, from_field, from_global, from_register, Good, Heap, Holds, IsBounded, IsCycleOf, IsMade, IsOpened, IsPointer, IsReachedAt, IsSince, mark_words, Marking, Name, names, OpenedHeapsAreAtRest, OpenedRegistersFit, Opens, Place, PlacesAreDecided, points, Reach, reference_of, reference_to, register_for_marking, row_bit, shape_for, size_for, TheHeapIsApart, TheReachedWereMade, Untouched, view, White, Words, WordsAreAtRest}
+use Rattle.gh_cycle.proofs.Said.{seen-since}
 
 -- no bit is set in a row of words that are 0
 no-bit : (o : ℕ) → row_bit (λ i. 0) o ≡ 0
@@ -84,6 +85,7 @@ module _ (z : Cycle) (h : Heap) (g : Good z.arena (view h)) (b : IsBounded z.are
 
   abbrev extents : Extents
   extents = record {
+    base = λ x. x;
     size = λ o. size_for z.arena.shapes h.ever.type_of (name-at o);
     pointer = λ o k. points z.arena.shapes h.ever.type_of (name-at o) k;
     noscan = λ o. (shape_for z.arena.shapes h.ever.type_of (name-at o)).noscan;
@@ -148,8 +150,9 @@ module _ (z : Cycle) (h : Heap) (g : Good z.arena (view h)) (b : IsBounded z.are
     below = λ o known. let w = (d.tells o).0 known in subst (λ (a : ℕ). a < 1024 * z.arena.layout.pages) w.2 (in-heap w.0 w.1).0;
     sizes = λ o known. let w = (d.tells o).0 known in subst (λ (a : ℕ). extents.size a ≤ 1024 * z.arena.layout.pages) w.2 (subst (λ (m : ℕ). m ≤ 1024 * z.arena.layout.pages) (sym (of-heap.size w.0 w.1)) (in-heap w.0 w.1).1);
     placed = λ o known. let w = (d.tells o).0 known in subst (λ (a : ℕ). row_bit (alloc_words h.words) a ≡ 1) w.2 (g.reached w.0 w.1).set;
-    fields = fields-since z.arena h g b made marking of-heap;
-    globals = globals;
+    bases = λ o known. refl;
+    fields = λ o k known l. seen-since d.test (λ x. x) (λ x. refl) (h.words (Cell.Field (o + k))) (fields-since z.arena h g b made marking of-heap o k known l);
+    globals = λ i. seen-since d.test (λ x. x) (λ x. refl) (h.words (Cell.Global i)) (globals i);
     registers = registers-since z.arena h g b made marking of-heap;
   }
 

@@ -63,6 +63,7 @@ module _ (least : LeastSlot) (apart : TheHeapIsApart) (z : Arena) (h : Heap) (s 
       let low : 1024 * x.p ≤ h.place n = omega (arith, first.0) in
       let high : h.place n < 1024 * (x.p + x.h.pages) = omega (arith, first.1) in
       record {
+        base_is = said.base;
         within = omega (arith, sized, some, last.1, x.slot.span.within);
         some = omega (arith, sized, some);
         size_is = slot-read z.layout.pages (page_words h.words) x.p x.h x.i (h.place n) (size_for z.shapes h.ever.type_of n) x.slot low high ∙ sym sized;

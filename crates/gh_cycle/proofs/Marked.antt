@@ -3,8 +3,9 @@ use Rattle.std.proofs.Common.{◌≡◌, ◌≢◌, ℕ, ◌+◌, ◌/◌, ◌%�
 use Rattle.std.specs.Int.{bit_at}
 use Rattle.std.proofs.lemmas.Bool.{ltb-true, ltb-false}
 use Rattle.std.proofs.lemmas.List.{get_or_past}
-use Rattle.gh_cycle.proofs.Vocabulary.{alloc_words, bit_at-zero, cases_Bool, Cell, Cycle, EverValue, FitsShape, from_field, from_global, from_register, Good, Heap, Holds, is_pointer, IsBounded, IsMarked, IsPointer, mark_words, Marking, MarkingGood, Name, names, no_shape, path_field, path_global, path_register, Place, Placing, points, Reach, Reached, reference_to, RegistersFit, row_bit, Shape, shape_at, ShapesFit, TheMarkedStand, TheReachedAreMarkedBeside, TheReachedWereMade, view, Words}
+use Rattle.gh_cycle.proofs.Vocabulary.{alloc_words, bit_at-zero, cases_Bool, Cell, Cycle, EverValue, FitsShape, from_field, from_global, from_register, Good, HasMark, Heap, Holds, is_pointer, IsBounded, IsPointer, mark_words, Marking, MarkingGood, Name, names, no_shape, path_field, path_global, path_register, Place, Placing, points, Reach, Reached, reference_to, RegistersFit, row_bit, Shape, shape_at, ShapesFit, TheMarkedStand, TheReachedAreMarkedBeside, TheReachedWereMade, view, Words}
 use Rattle.gh_cycle.proofs.Beginning.{reference-told}
+use Rattle.gh_marks.specs.Moves.{seen_is}
 use Rattle.gh_cycle.proofs.Said.{IsSaid, said-beside}
 
 -- a bit of no word is not set
@@ -35,13 +36,13 @@ holds-name place made p EverValue.Nil n word is holds = absurd (cc)
 holds-name place made p (EverValue.Int i) n word is holds = absurd (cc)
 holds-name place made p (EverValue.Ref m) n word is holds = let same : m ≡ n = cc in (holds.0, holds.1 ∙ ap (reference_to place) same)
 
-module _ (z : Cycle) (h : Heap) (s : Marking) (g : Good z.arena (view h)) (fit : ShapesFit z.arena.shapes) (b : IsBounded z.arena h.ever) (same : s.words ≡ h.words) (said : (n : Name) → Reach h.ever n → IsSaid z.arena h s n) (registers : RegistersFit z.arena h s) (made : TheReachedWereMade) where
+module _ (z : Cycle) (h : Heap) (s : Marking) (g : Good z.arena (view h)) (fit : ShapesFit z.arena.shapes) (b : IsBounded z.arena h.ever) (same : s.words ≡ h.words) (base : (x : ℕ) → s.extents.base x ≡ x) (said : (n : Name) → Reach h.ever n → IsSaid z.arena h s n) (registers : RegistersFit z.arena h s) (made : TheReachedWereMade) where
   -- a path of names is a path of words
   path : (n : Name) → Reach h.ever n → Reached z s (h.place n)
   path n (from_global k n' is) =
       let within = (b.globals k n is).0 in
       let w = holds-name h.place h.ever.made true (h.ever.global k) n (h.words (Cell.Global k)) is (g.globals k within) in
-      path_global k (h.place n) within (ap (λ (u : Words). u (Cell.Global k)) same ∙ w.1)
+      path_global k (h.place n) within (seen_is s.extents.base base (s.words (Cell.Global k)) ∙ ap (λ (u : Words). u (Cell.Global k)) same ∙ w.1)
   path n (from_register j d n' runs is) =
       let w = b.registers j d n is in
       path_register j d (h.place n) w.0 w.1 (registers j d w.0 w.1 runs ∙ reference-told h.place (h.ever.register j d) n is)
@@ -53,14 +54,14 @@ module _ (z : Cycle) (h : Heap) (s : Marking) (g : Good z.arena (view h)) (fit :
         (said m r).pointer k within ∙ w.0,
         (said m r).noscan ∙ pointing-scans z.arena.shapes fit (h.ever.type_of m) k w.0,
       ) in
-      path_field (h.place m) k (h.place n) (path m r) pointer (ap (λ (u : Words). u (Cell.Field (h.place m + k))) same ∙ w.1)
+      path_field (h.place m) k (h.place n) (path m r) pointer (seen_is s.extents.base base (s.words (Cell.Field (h.place m + k))) ∙ ap (λ (u : Words). u (Cell.Field (h.place m + k))) same ∙ w.1)
 
 pub reached-marked-beside : TheReachedWereMade → TheReachedAreMarkedBeside
 reached-marked-beside made z h s g fit b c each n r =
-    each (h.place n) (path z h s g fit b c.words (λ m reached. said-beside z.arena h s c m (record { made = made z.arena h.ever b m reached; placed = g.reached m reached; since = c.reached m reached })) c.registers made n r)
+    each (h.place n) (path z h s g fit b c.words c.base (λ m reached. said-beside z.arena h s c m (record { made = made z.arena h.ever b m reached; placed = g.reached m reached; since = c.reached m reached })) c.registers made n r)
 
 -- so it is of the cycle
-pub marked-since : (z : Cycle) (s : Marking) → MarkingGood z s → ((o a : ℕ) → s.colour o ≢ Placing a) → (o : ℕ) → IsMarked (mark_words s.words) o → s.since o ≡ true
+pub marked-since : (z : Cycle) (s : Marking) → MarkingGood z s → ((o a : ℕ) → s.colour o ≢ Placing a) → (o : ℕ) → HasMark (mark_words s.words) o → s.since o ≡ true
 marked-since z s g none o marked = grind arith
 
 -- and stands

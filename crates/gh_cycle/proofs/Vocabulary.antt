@@ -18,7 +18,7 @@ pub use Rattle.gh_cycle.specs.Known.{KnownOfMoves}
 pub use Rattle.gh_cycle.specs.Marked.{OpenedRegistersFit, RegistersFit}
 pub use Rattle.gh_cycle.specs.Opening.{CyclesOpen, IsCycleOf, IsOpened, OpenedHeapsAreAtRest, reference_of, register_for_marking, WordsAreAtRest}
 pub use Rattle.gh_cycle.specs.Reached.{BoundsLast, Decided, IsBounded, IsInRange, IsReachedAt, PlacesAreDecided, ReachIsDecided, TheReachedWereMade}
-pub use Rattle.gh_cycle.specs.Vocabulary.{alloc_words, answer_of, Arena, Ask, birth_words, Cell, Claims, Cycle, END, Ever, ever_after, EverValue, field_words, global_words, Good, Heap, IsClean, IsMade, IsMarked, mark_words, Marking, MarkingGood, Name, names, next_name, opening_ever, Opens, Place, Placed, Placing, points, Reach, reference_to, REGISTERS, RowsAreWritten, shape_for, size_for, View, view, with_end, with_field, with_global, with_object, with_register}
+pub use Rattle.gh_cycle.specs.Vocabulary.{alloc_words, answer_of, Arena, Ask, birth_words, Cell, Claims, Cycle, END, Ever, ever_after, EverValue, Good, HasMark, Heap, IsClean, IsMade, mark_words, Marking, MarkingGood, Name, names, next_name, opening_ever, Opens, Place, Placed, Placing, points, Reach, reference_to, REGISTERS, RowsAreWritten, seen_field, seen_global, seen_word, shape_for, size_for, View, view, with_end, with_field, with_global, with_object, with_register}
 unfoldable pub use Rattle.gh_cycle.specs.Vocabulary.{row_bit}
 pub use Rattle.gh_heap.specs.Laws.{name_made, TheHeapIsApart}
 pub use Rattle.gh_heap.specs.Moves.{GoroutineRuns, IsAside, IsQuiet, IsReached, update, update_at}

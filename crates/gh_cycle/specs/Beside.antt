@@ -1,6 +1,6 @@
 -- While a cycle is marked processors go on. What holds of the heap and of marking together then, and what steps leave of it.
 use Rattle.std.specs.Prelude.{◌≡◌, ◌≢◌, ℕ, ◌+◌, ◌<◌, true, false}
-use Rattle.gh_cycle.specs.Vocabulary.{alloc_words, Arena, Ask, birth_words, Cell, Claims, Cycle, EachReachedIsMarked, END, Good, Heap, IsMade, IsMarked, mark_words, Marking, MarkingGood, Name, Placed, Placing, points, Reach, REGISTERS, row_bit, shape_for, size_for, View, view}
+use Rattle.gh_cycle.specs.Vocabulary.{alloc_words, Arena, Ask, birth_words, Cell, Claims, Cycle, EachReachedIsMarked, END, Good, Heap, IsMade, HasMark, mark_words, Marking, MarkingGood, Name, Placed, Placing, points, Reach, REGISTERS, row_bit, shape_for, size_for, View, view}
 use Rattle.gh_base.specs.Shapes.{ShapesFit}
 use Rattle.gh_heap.specs.Moves as heap
 use Rattle.gh_marks.specs.Knows.{KnowsObjects}
@@ -24,6 +24,8 @@ pub record ClaimsSlot (z : Arena) (v : View) (a at : ℕ) : Type 0 where
 pub record IsBeside (z : Arena) (h : Heap) (s : Marking) : Type 0 where
   pub words : s.words ≡ h.words
   pub reached : (n : Name) → Reach h.ever n → s.since (h.place n) ≡ true
+  -- an object is named by its first word alone
+  pub base : (x : ℕ) → s.extents.base x ≡ x
   pub size : (n : Name) → IsOfCycle h s n → s.extents.size (h.place n) ≡ size_for z.shapes h.ever.type_of n
   pub pointer : (n : Name) (k : ℕ) → IsOfCycle h s n → k < size_for z.shapes h.ever.type_of n → s.extents.pointer (h.place n) k ≡ points z.shapes h.ever.type_of n k
   pub noscan : (n : Name) → IsOfCycle h s n → s.extents.noscan (h.place n) ≡ (shape_for z.shapes h.ever.type_of n).noscan
@@ -77,4 +79,4 @@ TheMarkedStand = (z : Cycle) (h : Heap) (s : Marking) → MarkingGood z s → s.
 
 -- each object that a script reaches is marked then
 abbrev pub TheReachedAreMarkedBeside : Type 0
-TheReachedAreMarkedBeside = (z : Cycle) (h : Heap) (s : Marking) → Good z.arena (view h) → ShapesFit z.arena.shapes → IsBounded z.arena h.ever → IsBeside z.arena h s → EachReachedIsMarked z s → (n : Name) → Reach h.ever n → IsMarked (mark_words s.words) (h.place n)
+TheReachedAreMarkedBeside = (z : Cycle) (h : Heap) (s : Marking) → Good z.arena (view h) → ShapesFit z.arena.shapes → IsBounded z.arena h.ever → IsBeside z.arena h s → EachReachedIsMarked z s → (n : Name) → Reach h.ever n → HasMark (mark_words s.words) (h.place n)

@@ -1,6 +1,6 @@
 -- While a cycle is marked: what a step of a processor does, whichever move over the heap it is, and what marking asks of it. A routine's law tells which words it writes and how the heap that never frees changes, and not by which move.
 use Rattle.std.specs.Prelude.{◌≡◌, ℕ, ◌+◌, ◌/◌, ◌%◌, ◌^◌, ◌<◌, true, false, Some, None}
-use Rattle.gh_cycle.specs.Vocabulary.{Arena, Ask, Cell, Cycle, END, Ever, EverValue, field_words, global_words, Good, Heap, IsClean, IsMarked, mark_words, Marking, MarkingGood, Name, names, next_name, Placing, points, REGISTERS, shape_for, size_for, view, with_end, with_field, with_global, with_object, with_register}
+use Rattle.gh_cycle.specs.Vocabulary.{Arena, Ask, Cell, Cycle, END, Ever, EverValue, field_words, global_words, Good, HasMark, Heap, IsClean, mark_words, Marking, MarkingGood, Name, names, next_name, Placing, points, REGISTERS, seen_word, shape_for, size_for, view, with_end, with_field, with_global, with_object, with_register}
 use Rattle.gh_base.specs.Steps.{effect}
 use Rattle.gh_heap.specs.Moves as heap
 use Rattle.gh_marks.specs.Moves as marks
@@ -48,8 +48,8 @@ MeetsByDeed z a h s step Rests = marks.IsQuietInMarking s step × FillsNone a s
 MeetsByDeed z a h s step (Sets g d value) = marks.IsQuietInMarking s step × FillsNone a s × heap.GoroutineRuns z.arena (view h) a g × (d < REGISTERS) × TakesFrom z.arena h.ever g value
 MeetsByDeed z a h s step (Ends g) = (step ≡ Ask.Store (Cell.Scanned g) END) × FillsNone a s × heap.GoroutineRuns z.arena (view h) a g
 MeetsByDeed z a h s step (Makes at g d t) = (step ≡ Ask.Or (Cell.Alloc (at / 64)) (2 ^ (at % 64))) × (s.colour at ≡ Placing a) × heap.MayMake z.arena (view h) a at g d t
-MeetsByDeed z a h s step (Puts n k value word) = (step ≡ Ask.Store (Cell.Field (h.place n + k)) word) × FillsNone a s × heap.MayWrite z.arena (view h) a n k value word × (points z.arena.shapes h.ever.type_of n k ≡ true → IsClean (mark_words s.words) (field_words h.words (h.place n + k)) × IsClean (mark_words s.words) word)
-MeetsByDeed z a h s step (PutsGlobal k value word) = (step ≡ Ask.Store (Cell.Global k) word) × FillsNone a s × heap.MayWriteGlobal z.arena (view h) k value word × IsClean (mark_words s.words) (global_words h.words k) × IsClean (mark_words s.words) word
+MeetsByDeed z a h s step (Puts n k value word) = (step ≡ Ask.Store (Cell.Field (h.place n + k)) word) × FillsNone a s × heap.MayWrite z.arena (view h) a n k value word × (points z.arena.shapes h.ever.type_of n k ≡ true → IsClean s.colour (seen_word s.extents.base (field_words h.words (h.place n + k))) × IsClean s.colour (seen_word s.extents.base word))
+MeetsByDeed z a h s step (PutsGlobal k value word) = (step ≡ Ask.Store (Cell.Global k) word) × FillsNone a s × heap.MayWriteGlobal z.arena (view h) k value word × IsClean s.colour (seen_word s.extents.base (global_words h.words k)) × IsClean s.colour (seen_word s.extents.base word)
 
 abbrev pub hand_behind : Deed → InHand → InHand
 hand_behind (Makes at g d t) hand = record hand { placing = None }
@@ -61,7 +61,7 @@ pub record StepsBeside (z : Cycle) (a : ℕ) (h k : Heap) (s : Marking) (d : Dee
   pub went : marks.Went z a s then
   pub beside : IsBeside z.arena k then
   pub hands : (hand : InHand) → Hands a s hand → Hands a then (hand_behind d hand)
-  pub marked : (o : ℕ) → IsMarked (mark_words s.words) o → IsMarked (mark_words then.words) o
+  pub marked : (o : ℕ) → HasMark (mark_words s.words) o → HasMark (mark_words then.words) o
 
 -- whichever move of its seat it is
 abbrev pub DeedsGoBeside : Type 0

@@ -22,6 +22,8 @@ OpenedHeapsAreAtRest = (z : Arena) (trigger number : ℕ) (h : Heap) → 0 < num
 pub record IsCycleOf (z : Arena) (h : Heap) (s : Marking) : Type 0 where
   pub words : s.words ≡ h.words
   pub since : (o : ℕ) → (s.since o ≡ true) ↔ IsReachedAt h o
+  -- an object is named by its first word alone
+  pub base : (x : ℕ) → s.extents.base x ≡ x
   pub size : (n : Name) → Reach h.ever n → s.extents.size (h.place n) ≡ size_for z.shapes h.ever.type_of n
   pub pointer : (n : Name) (k : ℕ) → Reach h.ever n → k < size_for z.shapes h.ever.type_of n → s.extents.pointer (h.place n) k ≡ points z.shapes h.ever.type_of n k
   pub noscan : (n : Name) → Reach h.ever n → s.extents.noscan (h.place n) ≡ (shape_for z.shapes h.ever.type_of n).noscan

@@ -1,6 +1,6 @@
 -- What has become of a heap since a cycle began in it: what a script lost then, and what is of the cycle.
 use Rattle.std.specs.Prelude.{◌≡◌, ◌≢◌, ℕ}
-use Rattle.gh_cycle.specs.Vocabulary.{alloc_words, birth_words, Cycle, Ever, Good, Heap, IsMade, IsMarked, mark_words, Marking, MarkingGood, Name, Placed, Placing, Reach, view}
+use Rattle.gh_cycle.specs.Vocabulary.{alloc_words, birth_words, Cycle, Ever, Good, Heap, IsMade, HasMark, mark_words, Marking, MarkingGood, Name, Placed, Placing, Reach, view}
 use Rattle.gh_heap.specs.Moves as heap
 use Rattle.gh_marks.specs.Moves as marks
 use Rattle.gh_cycle.specs.Beside.{IsOfCycle}
@@ -25,4 +25,4 @@ WhatHasGoneOnLasts = (z : Cycle) (a : ℕ) (h : Heap) (s t : Marking) (m : heap.
 -- Where no slot is being filled, as at the end of marking: what stands and is marked, and had been made where the cycle began, a script reached then.
 abbrev pub TheMarkedWereReached : Type 0
 TheMarkedWereReached = (z : Cycle) (h : Heap) (s : Marking) (began : Ever) → MarkingGood z s → s.words ≡ h.words → ((o a : ℕ) → s.colour o ≢ Placing a) → HasGoneOn began h s →
-    (n : Name) → Placed (alloc_words h.words) (birth_words h.words) h.place n → IsMarked (mark_words s.words) (h.place n) → IsMade began.made n → Reach began n
+    (n : Name) → Placed (alloc_words h.words) (birth_words h.words) h.place n → HasMark (mark_words s.words) (h.place n) → IsMade began.made n → Reach began n

@@ -42,7 +42,7 @@ pub use Rattle.gh_marked.specs.Scanned.{done_by, FewAreScanned, GlobalsAreCounte
 pub use Rattle.gh_marked.specs.StackWords.{TellsStacks}
 pub use Rattle.gh_marked.specs.State.{began, began_words}
 pub use Rattle.gh_marked.specs.Sweepers.{IsInSweep, sweep_of}
-pub use Rattle.gh_marks.specs.Colours.{Black, Colour, IsGrey, IsMarked, mark_of, Placing, Scanned, Untouched, White}
+pub use Rattle.gh_marks.specs.Colours.{Black, Colour, HasMark, IsGrey, mark_of, Placing, Scanned, Untouched, White}
 pub use Rattle.gh_marks.specs.Moves.{goes, stays, Steps}
 pub use Rattle.gh_model.specs.Ever.{from_field, from_global, from_register, names, next_name, opening_ever}
 pub use Rattle.gh_mutator.specs.Deeds.{meaning}

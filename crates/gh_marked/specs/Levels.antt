@@ -1,6 +1,6 @@
 -- With each move of marking an object keeps its colour or goes on to a later one, and a global keeps how far it is or goes on. So what is scanned stays scanned.
 use Rattle.std.proofs.Common.{◌≡◌, ◌⊎◌, inl, inr, ℕ, ◌<◌, ◌≤◌, refl, ap, arith}
-use Rattle.gh_marked.specs.Vocabulary.{Black, Buffered, Cell, Claimed, ClaimGlobal, Colour, Cycle, EachStepGoesByMoves, eqb_tells, goes, Good, May, Move, moved, nat_tests, Pending, Placing, Progress, Read, ReadGlobal, ScanGlobal, Scanned, Shared, stays, Taken, Untouched, update, Went, White}
+use Rattle.gh_marked.specs.Vocabulary.{Black, Buffered, Claimed, ClaimGlobal, Colour, Cycle, EachStepGoesByMoves, eqb_tells, goes, Good, May, Move, moved, nat_tests, Pending, Placing, Progress, Read, ReadGlobal, ScanGlobal, Scanned, seen_global, Shared, stays, Taken, Untouched, update, Went, White}
 
 abbrev pub level : Colour → ℕ
 level White = 0
@@ -43,7 +43,7 @@ module _ (z : Cycle) (a : ℕ) (s : Shared) (none : NoneBeyond z s) where
 
   beyond : (m : Move) → May z a s m → NoneBeyond z (moved z a s m)
   beyond (ClaimGlobal i) may j le = one_there i (Claimed a) may.1 j le
-  beyond (ReadGlobal i) may j le = let is = ap far may in one_there i (Read a (s.words (Cell.Global i))) (there i (omega (arith, is))) j le
+  beyond (ReadGlobal i) may j le = let is = ap far may in one_there i (Read a (seen_global s i)) (there i (omega (arith, is))) j le
   beyond (ScanGlobal i value) may j le = let is = ap far may.0 in one_there i Scanned (there i (omega (arith, is))) j le
   beyond _ may j le = none j le
 

@@ -32,7 +32,7 @@ pub use Rattle.gh_lists.specs.Processors.{all_ended, answers_of, arena_of, ever_
 pub use Rattle.gh_lists.specs.Wants.{CountsWants, total}
 pub use Rattle.gh_lists.specs.declared.handshake.Actor.{Actor}
 pub use Rattle.gh_lists.specs.declared.handshake.Actor.TheVariants.{Marks}
-pub use Rattle.gh_marks.specs.Colours.{Black, Buffered, Claimed, Colour, Cycle, Pending, Placing, Progress, Read, Scanned, Shared, Shared as Marking, Taken, Untouched, White}
+pub use Rattle.gh_marks.specs.Colours.{Black, Buffered, Claimed, Colour, Cycle, Pending, Placing, Progress, Read, Scanned, seen_global, Shared, Shared as Marking, Taken, Untouched, White}
 pub use Rattle.gh_marks.specs.Ends.{Opens}
 pub use Rattle.gh_marks.specs.Good.{Good, Good as MarkingGood}
 pub use Rattle.gh_marks.specs.Knows.{KnowsObjects}

@@ -1,6 +1,6 @@
 -- What a seat has in hand after its own move.
 use Rattle.std.proofs.Common.{◌≡◌, ◌≢◌, ℕ, ◌+◌, ◌-◌, arith, sym, subst, Some, None}
-use Rattle.gh_marks.proofs.Vocabulary.{Ask, Black, Buffered, buffers_as_held, Cell, Claimed, ClaimOf, Colour, Cycle, EachHandFollows, Enter, entry_words, GiveBuffer, Good, Hands, Has, Held, HoldsBuffer, InHand, mark_words, May, moved, nat_tests, NoClaim, Pending, Placing, Quiet, Read, ReadOf, Row, Scanned, Shared, TakeBuffer, Taken, update, White}
+use Rattle.gh_marks.proofs.Vocabulary.{Ask, Black, Buffered, buffers_as_held, Claimed, ClaimOf, Colour, Cycle, EachHandFollows, Enter, entry_words, GiveBuffer, Good, Hands, Has, Held, HoldsBuffer, InHand, mark_words, May, moved, nat_tests, NoClaim, Pending, Placing, Quiet, Read, ReadOf, Row, Scanned, seen_global, Shared, TakeBuffer, Taken, update, White}
 use Rattle.gh_marks.proofs.Bits.{white-colour}
 use Rattle.gh_marks.proofs.Quiet.{ReadRows, Unread, unread}
 
@@ -129,7 +129,7 @@ hands-follow z a s h g x = record {
   put_global = λ i v. record { holds = x.holds; has = x.has };
   claimed = λ i may none. record { holds = x.holds; has = has-claim z a s h g x i none };
   passed = λ i. record { holds = x.holds; has = x.has };
-  read = λ i some. record { holds = x.holds; has = has-read z a s h g x i (s.words (Cell.Global i)) some };
+  read = λ i some. record { holds = x.holds; has = has-read z a s h g x i (seen_global s i) some };
   scanned = λ i v some. record { holds = x.holds; has = has-scan z a s h g x i v some };
   set = λ f d v. record { holds = x.holds; has = x.has };
   scanned_stack = λ f. record { holds = x.holds; has = x.has };

@@ -8,6 +8,7 @@ pub objects-coloured : (alloc : Row) (colour : ℕ → Colour) (since : ℕ → 
     ObjectsGood alloc colour since e → ObjectsGood alloc (update colour o c) since e
 objects-coloured alloc colour since e o c a b d g = record {
   placed = g.placed;
+  bases = g.bases;
   shaded = λ p h. elim (eqb_tells o p) [ inl y ↦ rw (← y.1) (a (rw (y.0) at h)) | inr n ↦ g.shaded p (rw (n.0) at h) ];
   grey = λ p h. elim (eqb_tells o p) [ inl y ↦ rw (← y.1) (b (rw (y.0) at h)) | inr n ↦ g.grey p (rw (n.0) at h) ];
   placing = λ p x h. elim (eqb_tells o p) [ inl y ↦ rw (← y.1) (d x (rw (y.0) at h)) | inr n ↦ g.placing p x (rw (n.0) at h) ];
@@ -26,7 +27,7 @@ entries-apart entries filled colour o c was is g = record {
 }
 
 -- the globals, where marks grow
-pub cursor-grows : (globals gcur : ℕ) (global : Row) (progress : ℕ → Progress) (m n : Row) → ((o : ℕ) → IsMarked m o → IsMarked n o) → CursorGood globals gcur global progress m → CursorGood globals gcur global progress n
+pub cursor-grows : (globals gcur : ℕ) (global : Row) (progress : ℕ → Progress) (m n : ℕ → Colour) → ((o : ℕ) → IsMarked m o → IsMarked n o) → CursorGood globals gcur global progress m → CursorGood globals gcur global progress n
 cursor-grows globals gcur global progress m n grow g = record {
   untouched = g.untouched;
   ahead = g.ahead;

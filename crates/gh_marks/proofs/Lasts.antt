@@ -1,6 +1,6 @@
 -- What a seat relies on lasts; and what steps of one or two moves leave.
-use Rattle.std.proofs.Common.{◌≡◌, ℕ, ◌+◌, refl, ◌∙◌, inl, ◌⊎◌, Option, Some, None, arith}
-use Rattle.gh_marks.proofs.Vocabulary.{buffers_as_held, Cell, Cycle, EachFactLasts, EachHandLasts, EachMoveKeeps, EachMoveLeaves, EachMoveLeavesTheDead, EachStepGoesByMoves, Extents, goes, Held, HoldsBuffer, IsClean, IsMarked, IsPointer, Keeps, KnowsCount, mark_words, moved, Others, Row, SameExtent, Shared, StepsGoByMoves}
+use Rattle.std.proofs.Common.{◌≡◌, ℕ, ◌+◌, ◌-◌, Bool, true, false, eqb, ap, refl, ◌∙◌, inl, ◌⊎◌, Option, Some, None, arith}
+use Rattle.gh_marks.proofs.Vocabulary.{buffers_as_held, Colour, Cycle, EachFactLasts, EachHandLasts, EachMoveKeeps, EachMoveLeaves, EachMoveLeavesTheDead, EachStepGoesByMoves, Extents, goes, Held, HoldsBuffer, IsClean, IsMarked, IsPointer, IsSince, Keeps, KnowsCount, moved, Others, Row, SameExtent, seen_field, seen_global, seen_word, Shared, StepsGoByMoves}
 use Rattle.gh_marks.specs.Moves.{stays}
 use Rattle.gh_marks.proofs.Leaves.{iff-then, others-same, same-iff}
 
@@ -11,8 +11,15 @@ pointer-was : (e f : Extents) (o k : ℕ) → SameExtent e f o → IsPointer f o
 pointer-was e f o k x h = (rw (x.size) at h.0, rw (x.pointer) at h.1, rw (x.noscan) at h.2)
 
 -- a word that stays or is clean then, and was clean
-word-clean : (m n : Row) (v w : ℕ) → ((o : ℕ) → IsMarked m o → IsMarked n o) → (w ≡ v) ⊎ IsClean n w → IsClean m v → IsClean n w
+word-clean : (m n : ℕ → Colour) (v w : ℕ) → ((o : ℕ) → IsMarked m o → IsMarked n o) → (w ≡ v) ⊎ IsClean n w → IsClean m v → IsClean n w
 word-clean m n v w grow h h2 = grind arith
+
+-- what is seen of a word stays
+seen-kept : (since : ℕ → Bool) (b c : Row) (w : ℕ) → ((x : ℕ) → since (b x) ≡ true → c x ≡ b x) → IsSince since (seen_word b w) → seen_word c w ≡ seen_word b w
+seen-kept since b c w same known = by (eqb w 0) refl where
+  by : (t : Bool) → eqb w 0 ≡ t → seen_word c w ≡ seen_word b w
+  by true e = rw e refl
+  by false e = let is : seen_word b w ≡ b (w - 1) + 1 = rw e refl in rw e (ap (λ x. x + 1) (same (w - 1) (known (b (w - 1)) is)))
 
 pub keeps-then : (z : Cycle) (a : ℕ) (s t u : Shared) → Keeps z a s t → Keeps z a t u → Keeps z a s u
 keeps-then z a s t u p q = grind arith
@@ -32,11 +39,14 @@ others-then z a s t u p q = record {
 
 pub facts-last : EachFactLasts
 facts-last z a s t k = record {
-  clean = λ value h o e. k.marks o (h o e);
+  clean = λ value h o e. k.colours o (h o e);
   since = λ value h o e. k.since o (h o e);
-  field = λ o j i l h. word-clean (mark_words s.words) (mark_words t.words) (s.words (Cell.Field (o + j))) (t.words (Cell.Field (o + j))) k.marks (k.fields o j i l) h;
-  global = λ i h. word-clean (mark_words s.words) (mark_words t.words) (s.words (Cell.Global i)) (t.words (Cell.Global i)) k.marks (k.globals i) h;
-  register = λ g d own h. word-clean (mark_words s.words) (mark_words t.words) (s.registers g d) (t.registers g d) k.marks (inl (k.registers g d own)) h;
+  field = λ o j i l h. word-clean s.colour t.colour (seen_field s (o + j)) (seen_field t (o + j)) k.colours (k.fields o j i l) h;
+  global = λ i h. word-clean s.colour t.colour (seen_global s i) (seen_global t i) k.colours (k.globals i) h;
+  register = λ g d own h. word-clean s.colour t.colour (s.registers g d) (t.registers g d) k.colours (inl (k.registers g d own)) h;
+  seen = λ w known. seen-kept s.since s.extents.base t.extents.base w k.bases known;
+  word = λ w known h. rw (seen-kept s.since s.extents.base t.extents.base w k.bases known) (λ o e. k.colours o (h o e));
+  word_since = λ w known. rw (seen-kept s.since s.extents.base t.extents.base w k.bases known) (λ o e. k.since o (known o e));
   pointer = λ o j i l. pointer-then s.extents t.extents o j (k.extents o i) l;
   pointer_was = λ o j i l. pointer-was s.extents t.extents o j (k.extents o i) l;
 }

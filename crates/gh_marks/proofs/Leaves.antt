@@ -1,7 +1,7 @@
 -- What each move of one seat leaves to another, and what it leaves to that seat itself where it changes no stack.
 use Rattle.std.proofs.Common.{◌≡◌, ◌≢◌, ℕ, ◌+◌, Bool, true, arith, refl, sym, ◌∙◌, ap, inl, inr, ◌⊎◌, subst, ◌↔◌}
-use Rattle.gh_marks.proofs.Vocabulary.{Ask, Black, Blacken, buffer_words, Cell, Claimed, ClaimGlobal, Colour, Cycle, EachMoveLeaves, EndStack, Enter, eqb_tells, Extents, field_words, GiveBuffer, global_words, Good, holder_in, IsClean, IsMarked, IsOf, IsPointer, Keeps, LeavesStacks, mark_words, May, Move, moved, nat_tests, Others, PassGlobals, Pending, Place, Placing, Progress, PutField, PutGlobal, Quiet, Read, ReadGlobal, Reserve, Row, RowsAreWritten, SameExtent, ScanGlobal, scanned_words, ScanStack, SetRegister, Shade, ShadeAgain, ShadeFlat, Shared, TakeBuffer, TakeEntry, Taken, update, update_at, White}
-use Rattle.gh_marks.proofs.Bits.{marks-grow, white-colour}
+use Rattle.gh_marks.proofs.Vocabulary.{Ask, Black, Blacken, buffer_words, Buffered, Cell, Claimed, ClaimGlobal, Colour, Cycle, EachMoveLeaves, EndStack, Enter, eqb_tells, Extents, field_words, GiveBuffer, global_words, Good, HasMark, holder_in, IsClean, IsMarked, IsOf, IsPointer, Keeps, LeavesStacks, mark_words, May, Move, moved, nat_tests, Others, PassGlobals, Pending, Place, Placing, Progress, PutField, PutGlobal, Quiet, Read, ReadGlobal, Reserve, Row, RowsAreWritten, SameExtent, ScanGlobal, scanned_words, ScanStack, seen_row, seen_word, SetRegister, Shade, ShadeAgain, ShadeFlat, Shared, TakeBuffer, TakeEntry, Taken, update, update_at, White}
+use Rattle.gh_marks.proofs.Bits.{colours-grow, marks-grow, white-colour}
 use Rattle.gh_marks.proofs.Quiet.{ReadRows, Unread, unread}
 
 pub same-iff : {P : Type 0} → P ↔ P
@@ -11,14 +11,16 @@ pub iff-then : {P Q R : Type 0} → P ↔ Q → Q ↔ R → P ↔ R
 iff-then p q = ((λ h. q.0 (p.0 h)), (λ h. p.1 (q.1 h)))
 
 -- What is kept, in parts over the rows that a move may change. A part is kept by its name where a move changes none of its rows.
-record WordsKept (since : ℕ → Bool) (e : Extents) (mark field global mark_then field_then global_then : Row) : Type 0 where
-  pub marks : (o : ℕ) → IsMarked mark o → IsMarked mark_then o
-  pub fields : (o k : ℕ) → since o ≡ true → IsPointer e o k → (field_then (o + k) ≡ field (o + k)) ⊎ IsClean mark_then (field_then (o + k))
-  pub globals : (i : ℕ) → (global_then i ≡ global i) ⊎ IsClean mark_then (global_then i)
+record WordsKept (since : ℕ → Bool) (e : Extents) (colour colour_then : ℕ → Colour) (mark field global mark_then field_then global_then : Row) : Type 0 where
+  pub marks : (o : ℕ) → HasMark mark o → HasMark mark_then o
+  pub colours : (o : ℕ) → IsMarked colour o → IsMarked colour_then o
+  pub fields : (o k : ℕ) → since o ≡ true → IsPointer e o k → (field_then (o + k) ≡ field (o + k)) ⊎ IsClean colour_then (field_then (o + k))
+  pub globals : (i : ℕ) → (global_then i ≡ global i) ⊎ IsClean colour_then (global_then i)
 
 record ObjectsKept (since since_then : ℕ → Bool) (e f : Extents) : Type 0 where
   pub sinces : (o : ℕ) → since o ≡ true → since_then o ≡ true
   pub extents : (o : ℕ) → since o ≡ true → SameExtent e f o
+  pub bases : (x : ℕ) → since (e.base x) ≡ true → f.base x ≡ e.base x
 
 record StacksKept (z : Cycle) (a : ℕ) (registers registers_then : ℕ → Row) (scanned scanned_then : Row) : Type 0 where
   pub each_register : (g d : ℕ) → IsOf z.arena a g → registers_then g d ≡ registers g d
@@ -38,7 +40,7 @@ record BufferKept (a : ℕ) (buffer buffer_then filled filled_then : Row) (passe
 
 module _ (z : Cycle) (a : ℕ) (s t : Shared) where
   abbrev Words : Type 0
-  Words = WordsKept s.since s.extents (mark_words s.words) (field_words s.words) (global_words s.words) (mark_words t.words) (field_words t.words) (global_words t.words)
+  Words = WordsKept s.since s.extents s.colour t.colour (mark_words s.words) (seen_row s.extents.base (field_words s.words)) (seen_row s.extents.base (global_words s.words)) (mark_words t.words) (seen_row t.extents.base (field_words t.words)) (seen_row t.extents.base (global_words t.words))
 
   abbrev Objects : Type 0
   Objects = ObjectsKept s.since t.since s.extents t.extents
@@ -70,10 +72,14 @@ same-extent e o = record { size = refl; pointer = refl; noscan = refl }
 
 module _ (z : Cycle) (a : ℕ) (s : Shared) where
   words-same : Words z a s s
-  words-same = record { marks = λ o h. h; fields = λ o k i l. inl refl; globals = λ i. inl refl }
+  words-same = record { marks = λ o h. h; colours = λ o h. h; fields = λ o k i l. inl refl; globals = λ i. inl refl }
+
+  -- an object takes a colour that is not white
+  words-coloured : (o : ℕ) (c : Colour) → c ≢ White → Words z a s (record s { colour = update s.colour o c })
+  words-coloured o c h = record { marks = λ p m. m; colours = colours-grow s.colour o c h; fields = λ p k i l. inl refl; globals = λ i. inl refl }
 
   objects-same : Objects z a s s
-  objects-same = record { sinces = λ o h. h; extents = λ o h. same-extent s.extents o }
+  objects-same = record { sinces = λ o h. h; extents = λ o h. same-extent s.extents o; bases = λ x h. refl }
 
   stacks-same : Stacks z a s s
   stacks-same = record { each_register = λ g d own. refl; each_stack = λ g own. refl }
@@ -96,12 +102,16 @@ module _ (k : RowsAreWritten) (z : Cycle) (a c : ℕ) (s : Shared) (g : Good z s
   plain m w o t = grind arith
 
   marks-set : (o : ℕ) → Words z a s (moved z c s (ShadeAgain o))
-  marks-set o = record { marks = marks-grow k s.words o; fields = λ p j i l. inl refl; globals = λ i. inl refl }
+  marks-set o = record { marks = marks-grow k s.words o; colours = λ p m. m; fields = λ p j i l. inl refl; globals = λ i. inl refl }
+
+  marks-coloured : (o : ℕ) (d : Colour) → d ≢ White → Words z a s (record (moved z c s (ShadeAgain o)) { colour = update s.colour o d })
+  marks-coloured o d h = record { marks = marks-grow k s.words o; colours = colours-grow s.colour o d h; fields = λ p j i l. inl refl; globals = λ i. inl refl }
 
   keeps-put_field : (x v : ℕ) → May z c s (PutField x v) → Keeps z a s (moved z c s (PutField x v))
   keeps-put_field x v may = plain (PutField x v)
       (record {
         marks = λ p h. h;
+        colours = λ p h. h;
         fields = λ p m i l. elim (eqb_tells x (p + m)) [ inr n ↦ inl (rw (n.0) refl) | inl y ↦ inr (rw (y.0) may.new) ];
         globals = λ i. inl refl;
       })
@@ -111,6 +121,7 @@ module _ (k : RowsAreWritten) (z : Cycle) (a c : ℕ) (s : Shared) (g : Good z s
   keeps-put_global i v may = plain (PutGlobal i v)
       (record {
         marks = λ p h. h;
+        colours = λ p h. h;
         fields = λ p m i l. inl refl;
         globals = λ j. elim (eqb_tells i j) [ inr n ↦ inl (rw (n.0) refl) | inl y ↦ inr (rw (y.0) may.new) ];
       })
@@ -123,9 +134,10 @@ module _ (k : RowsAreWritten) (z : Cycle) (a c : ℕ) (s : Shared) (g : Good z s
     keeps-quiet : Keeps z a s (moved z c s (Quiet step))
     keeps-quiet = plain (Quiet step)
         (record {
-          marks = subst (λ (r : ReadRows). (o : ℕ) → IsMarked (mark_words s.words) o → IsMarked r.mark o) (sym u.rows_are) (λ o h. h);
-          fields = λ o j i l. inl (u.fields o j i l);
-          globals = λ i. inl (ap (λ (r : ReadRows). r.global i) u.rows_are);
+          marks = subst (λ (r : ReadRows). (o : ℕ) → HasMark (mark_words s.words) o → HasMark r.mark o) (sym u.rows_are) (λ o h. h);
+          colours = λ o h. h;
+          fields = λ o j i l. inl (ap (seen_word s.extents.base) (u.fields o j i l));
+          globals = λ i. inl (ap (λ (r : ReadRows). seen_word s.extents.base (r.global i)) u.rows_are);
         })
         (objects-same z a s)
         (record { each_register = λ f d own. refl; each_stack = λ f own. ap (λ (r : ReadRows). r.scanned f) u.rows_are })
@@ -139,21 +151,21 @@ module _ (k : RowsAreWritten) (z : Cycle) (a c : ℕ) (s : Shared) (g : Good z s
 
   pub keeps-moved : (m : Move) → May z c s m → LeavesStacks m → Keeps z a s (moved z c s m)
   keeps-moved (Quiet step) may x = keeps-quiet step may
-  keeps-moved (Shade o) may x = plain (Shade o) (marks-set o) (objects-same z a s) (stacks-same z a s)
-  keeps-moved (ShadeFlat o) may x = plain (ShadeFlat o) (marks-set o) (objects-same z a s) (stacks-same z a s)
+  keeps-moved (Shade o) may x = plain (Shade o) (marks-coloured o (Pending c) (λ h. cc)) (objects-same z a s) (stacks-same z a s)
+  keeps-moved (ShadeFlat o) may x = plain (ShadeFlat o) (marks-coloured o (Black) (λ h. cc)) (objects-same z a s) (stacks-same z a s)
   keeps-moved (ShadeAgain o) may x = plain (ShadeAgain o) (marks-set o) (objects-same z a s) (stacks-same z a s)
   keeps-moved (TakeBuffer b) may x = plain (TakeBuffer b) (words-same z a s) (objects-same z a s) (stacks-same z a s)
   keeps-moved (GiveBuffer b) may x = plain (GiveBuffer b) (words-same z a s) (objects-same z a s) (stacks-same z a s)
-  keeps-moved (Enter b o) may x = plain (Enter b o) (words-same z a s) (objects-same z a s) (stacks-same z a s)
-  keeps-moved (TakeEntry b o) may x = plain (TakeEntry b o) (words-same z a s) (objects-same z a s) (stacks-same z a s)
-  keeps-moved (Blacken o) may x = plain (Blacken o) (words-same z a s) (objects-same z a s) (stacks-same z a s)
+  keeps-moved (Enter b o) may x = plain (Enter b o) (words-coloured z a s o (Buffered b (s.filled b)) (λ h. cc)) (objects-same z a s) (stacks-same z a s)
+  keeps-moved (TakeEntry b o) may x = plain (TakeEntry b o) (words-coloured z a s o (Taken c) (λ h. cc)) (objects-same z a s) (stacks-same z a s)
+  keeps-moved (Blacken o) may x = plain (Blacken o) (words-coloured z a s o (Black) (λ h. cc)) (objects-same z a s) (stacks-same z a s)
   keeps-moved (PutField y v) may x = keeps-put_field y v may
   keeps-moved (PutGlobal i v) may x = keeps-put_global i v may
   keeps-moved (ClaimGlobal i) may x = plain (ClaimGlobal i) (words-same z a s) (objects-same z a s) (stacks-same z a s)
   keeps-moved (PassGlobals i) may x = plain (PassGlobals i) (words-same z a s) (objects-same z a s) (stacks-same z a s)
   keeps-moved (ReadGlobal i) may x = plain (ReadGlobal i) (words-same z a s) (objects-same z a s) (stacks-same z a s)
   keeps-moved (ScanGlobal i v) may x = plain (ScanGlobal i v) (words-same z a s) (objects-same z a s) (stacks-same z a s)
-  keeps-moved (Reserve o) may x = plain (Reserve o) (marks-set o) (objects-same z a s) (stacks-same z a s)
+  keeps-moved (Reserve o) may x = plain (Reserve o) (marks-coloured o (Placing c) (λ h. cc)) (objects-same z a s) (stacks-same z a s)
   keeps-moved _ may x = absurd x
 
   -- To another seat: what it has in hand stays, and its stacks.

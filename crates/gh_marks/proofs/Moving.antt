@@ -1,8 +1,8 @@
 -- Each move keeps what holds at every moment.
-use Rattle.std.proofs.Common.{◌≡◌, ◌≢◌, ℕ, ◌+◌, ◌-◌, arith, refl, sym, ◌∙◌, inl, inr, subst}
-use Rattle.gh_marks.proofs.Vocabulary.{alloc_words, AreCounted, Black, Blacken, Buffered, buffers_as_held, BuffersAreHeld, Cell, Colour, CursorGood, Cycle, EachStepKeepsTheInvariants, Enter, EntriesGood, entry_words, eqb_tells, GiveBuffer, global_words, Good, IsDrawn, IsPictured, IsSince, mark_of, mark_words, MarksGood, May, MayShade, Move, moved, nat_tests, ObjectsGood, PassesGood, Pending, Placing, PutField, PutGlobal, Quiet, Reserve, RowsAreWritten, seats_of, set_mark, Shade, ShadeAgain, ShadeFlat, Shared, StacksGood, TakeBuffer, TakeEntry, Taken, update, White}
+use Rattle.std.proofs.Common.{◌≡◌, ◌≢◌, ℕ, ◌+◌, ◌-◌, arith, refl, sym, ap, ◌∙◌, inl, inr, subst}
+use Rattle.gh_marks.proofs.Vocabulary.{alloc_words, AreCounted, Black, Blacken, Buffered, buffers_as_held, BuffersAreHeld, Cell, Colour, CursorGood, Cycle, EachStepKeepsTheInvariants, Enter, EntriesGood, entry_words, eqb_tells, GiveBuffer, global_words, Good, IsDrawn, IsPictured, IsSince, mark_of, mark_words, MarksGood, May, MayShade, Move, moved, nat_tests, ObjectsGood, PassesGood, Pending, Placing, PutField, PutGlobal, Quiet, Reserve, RowsAreWritten, seats_of, seen_row, seen_word, set_mark, Shade, ShadeAgain, ShadeFlat, Shared, StacksGood, TakeBuffer, TakeEntry, Taken, update, White}
 use Rattle.gh_base.specs.Holding as holding
-use Rattle.gh_marks.proofs.Bits.{marked-again, marked-set, marked-still, marks-grow, white-colour}
+use Rattle.gh_marks.proofs.Bits.{colours-grow, marked-again, marked-set, marked-still, white-colour}
 use Rattle.gh_marks.proofs.Drawing.Moving.{each-move-is-drawn}
 use Rattle.gh_marks.proofs.Keeps.{cursor-grows, entries-apart, objects-coloured, objects-shaded}
 use Rattle.gh_marks.proofs.Quiet.{ReadRows, Unread, unread}
@@ -35,11 +35,11 @@ module _ (know : Known) (z : Cycle) (a : ℕ) (s : Shared) (g : Good z s) where
     counts = subst (λ (r : ReadRows). AreCounted (record { words = r.buffer; entries = r.entry; filled = s.filled })) (sym u.rows_are) g.counts;
     entries = subst (λ (r : ReadRows). EntriesGood r.entry s.filled s.colour) (sym u.rows_are) g.entries;
     values = record {
-      fields = λ o k i l p e. g.values.fields o k i l p (sym (u.fields o k i l) ∙ e);
-      globals = subst (λ (r : ReadRows). (i : ℕ) → IsSince s.since (r.global i)) (sym u.rows_are) g.values.globals;
+      fields = λ o k i l p e. g.values.fields o k i l p (sym (ap (seen_word s.extents.base) (u.fields o k i l)) ∙ e);
+      globals = subst (λ (r : ReadRows). (i : ℕ) → IsSince s.since (seen_word s.extents.base (r.global i))) (sym u.rows_are) g.values.globals;
       stacks = g.values.stacks;
     };
-    cursor = subst (λ (r : ReadRows). CursorGood z.arena.layout.globals r.gcur r.global s.progress r.mark) (sym u.rows_are) g.cursor;
+    cursor = subst (λ (r : ReadRows). CursorGood z.arena.layout.globals r.gcur (seen_row s.extents.base r.global) s.progress s.colour) (sym u.rows_are) g.cursor;
     passes = subst (λ (r : ReadRows). PassesGood z.arena.layout.globals (seats_of z.arena.layout) r.gcur s.passed) (sym u.rows_are) g.passes;
     stacks = subst (λ (r : ReadRows). StacksGood z.number r.scanned s.registers) (sym u.rows_are) g.stacks;
     pictured = pictured (Quiet step) may;
@@ -47,8 +47,8 @@ module _ (know : Known) (z : Cycle) (a : ℕ) (s : Shared) (g : Good z s) where
     u : Unread s (moved z a s (Quiet step)).words
     u = unread s step may
 
-  cursor-set : (o : ℕ) → CursorGood z.arena.layout.globals (s.words Cell.Gcur) (global_words s.words) s.progress (mark_words (set_mark s.words o))
-  cursor-set o = cursor-grows z.arena.layout.globals (s.words Cell.Gcur) (global_words s.words) s.progress (mark_words s.words) (mark_words (set_mark s.words o)) (marks-grow know.rows s.words o) g.cursor
+  pub cursor-coloured : (o : ℕ) (c : Colour) → c ≢ White → CursorGood z.arena.layout.globals (s.words Cell.Gcur) (seen_row s.extents.base (global_words s.words)) s.progress (update s.colour o c)
+  cursor-coloured o c h = cursor-grows z.arena.layout.globals (s.words Cell.Gcur) (seen_row s.extents.base (global_words s.words)) s.progress s.colour (update s.colour o c) (colours-grow s.colour o c h) g.cursor
 
   -- a mark bit is set
   set : (o : ℕ) (c : Colour) → s.colour o ≡ White → mark_of c ≡ 1 → ((b j : ℕ) → c ≢ Buffered b j) → ObjectsGood (alloc_words s.words) (update s.colour o c) s.since s.extents →
@@ -59,13 +59,16 @@ module _ (know : Known) (z : Cycle) (a : ℕ) (s : Shared) (g : Good z s) where
     counts = g.counts;
     entries = entries-apart (entry_words s.words) s.filled s.colour o c (λ b j e. white-buffered (sym white ∙ e)) nb g.entries;
     values = g.values;
-    cursor = cursor-set o;
+    cursor = cursor-coloured o c (λ e. marked-white one e);
     passes = g.passes;
     stacks = g.stacks;
     pictured = pictured;
   } where
     white-buffered : {b j : ℕ} → White ≡ Buffered b j → ⊥
     white-buffered e = cc
+
+    marked-white : mark_of c ≡ 1 → c ≡ White → ⊥
+    marked-white h e = let none : mark_of c ≡ 0 = rw e refl in omega (arith, h, none)
 
   white-of : (o : ℕ) → MayShade s o → s.colour o ≡ White
   white-of o may = white-colour (mark_words s.words) s.colour g.marks o may.white
@@ -89,7 +92,7 @@ module _ (know : Known) (z : Cycle) (a : ℕ) (s : Shared) (g : Good z s) where
     counts = g.counts;
     entries = g.entries;
     values = g.values;
-    cursor = cursor-set o;
+    cursor = g.cursor;
     passes = g.passes;
     stacks = g.stacks;
     pictured = pictured (ShadeAgain o) may;
@@ -112,7 +115,7 @@ module _ (know : Known) (z : Cycle) (a : ℕ) (s : Shared) (g : Good z s) where
       buffered = λ p c k h. grind (arith, nat_tests, g.entries.buffered p c k);
     };
     values = g.values;
-    cursor = g.cursor;
+    cursor = cursor-coloured o (Buffered b (s.filled b)) (λ h. cc);
     passes = g.passes;
     stacks = g.stacks;
     pictured = pictured (Enter b o) may;
@@ -131,7 +134,7 @@ module _ (know : Known) (z : Cycle) (a : ℕ) (s : Shared) (g : Good z s) where
           buffered = λ p c k h. grind (arith, nat_tests, g.entries.buffered p c k, may.entry);
         };
         values = g.values;
-        cursor = g.cursor;
+        cursor = cursor-coloured o (Taken a) (λ h. cc);
         passes = g.passes;
         stacks = g.stacks;
         pictured = pictured (TakeEntry b o) may;
@@ -144,7 +147,7 @@ module _ (know : Known) (z : Cycle) (a : ℕ) (s : Shared) (g : Good z s) where
     counts = g.counts;
     entries = entries-apart (entry_words s.words) s.filled s.colour o Black (λ b j e. taken-buffered (sym may.0 ∙ e)) (λ b j e. cc) g.entries;
     values = g.values;
-    cursor = g.cursor;
+    cursor = cursor-coloured o Black (λ h. cc);
     passes = g.passes;
     stacks = g.stacks;
     pictured = pictured (Blacken o) may;

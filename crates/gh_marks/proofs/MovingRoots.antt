@@ -1,9 +1,9 @@
 -- Each move keeps what holds at every moment: those of globals, of stacks and of new objects, and all together.
 use Rattle.std.proofs.Common.{◌≡◌, ℕ, zero, suc, ◌+◌, ◌<◌, ◌≤◌, Bool, true, false, eqb, arith, refl, sym, ap, ◌∙◌, inl, inr}
-use Rattle.gh_marks.proofs.Vocabulary.{bit, Black, Blacken, Buffered, Cell, ClaimGlobal, Cycle, EachMoveKeeps, END, EndStack, Enter, entry_words, eqb_tells, field_words, GiveBuffer, global_words, Good, IsPointer, IsSince, mark_words, May, Move, moved, nat_tests, PassGlobals, Place, Placing, PutField, PutGlobal, Quiet, ReadGlobal, Reserve, ScanGlobal, scanned_words, ScanStack, seats_among, seats_of, SetRegister, Shade, ShadeAgain, ShadeFlat, Shared, TakeBuffer, TakeEntry, update, ValuesGood}
+use Rattle.gh_marks.proofs.Vocabulary.{bit, Black, Blacken, Buffered, ClaimGlobal, Cycle, EachMoveKeeps, END, EndStack, Enter, entry_words, eqb_tells, field_words, GiveBuffer, global_words, Good, IsPointer, IsSince, mark_words, May, Move, moved, nat_tests, PassGlobals, Place, Placing, PutField, PutGlobal, Quiet, ReadGlobal, Reserve, ScanGlobal, scanned_words, ScanStack, seats_among, seats_of, seen_field, seen_global, seen_row, seen_word, SetRegister, Shade, ShadeAgain, ShadeFlat, Shared, TakeBuffer, TakeEntry, update, ValuesGood}
 use Rattle.gh_marks.proofs.Bits.{alloc-other, alloc-same, marked-again}
 use Rattle.gh_marks.proofs.Keeps.{entries-apart, stacks-set, values-set}
-use Rattle.gh_marks.proofs.Moving.{Known, good-again, good-blacken, good-enter, good-flat, good-give_buffer, good-put_field, good-put_global, good-quiet, good-reserve, good-shade, good-take_buffer, good-take_entry, pictured}
+use Rattle.gh_marks.proofs.Moving.{cursor-coloured, Known, good-again, good-blacken, good-enter, good-flat, good-give_buffer, good-put_field, good-put_global, good-quiet, good-reserve, good-shade, good-take_buffer, good-take_entry, pictured}
 
 -- one seat more is counted, and no seat behind those counted matters
 count-behind : (passed : ℕ → Bool) (a n : ℕ) → n ≤ a → seats_among (update passed a true) n ≡ seats_among passed n
@@ -98,7 +98,7 @@ module _ (know : Known) (z : Cycle) (a : ℕ) (s : Shared) (g : Good z s) where
     objects = g.objects;
     counts = g.counts;
     entries = g.entries;
-    values = values-set s.extents (field_words s.words) (global_words s.words) s.registers s.since h d v may.since g.values;
+    values = values-set s.extents (seen_row s.extents.base (field_words s.words)) (seen_row s.extents.base (global_words s.words)) s.registers s.since h d v may.since g.values;
     cursor = g.cursor;
     passes = g.passes;
     stacks = stacks-set z.number (scanned_words s.words) s.registers h d v may.goes_on g.stacks;
@@ -156,14 +156,15 @@ module _ (know : Known) (z : Cycle) (a : ℕ) (s : Shared) (g : Good z s) where
     marks = marked-again (mark_words s.words) s.colour o Black (rw (may.reserved) refl) g.marks;
     objects = record {
       placed = λ p h. elim (eqb_tells o p) [ inl y ↦ rw (← y.1) (alloc-same know.rows s.words o) | inr n ↦ alloc-other know.rows s.words o p n.1 ∙ g.objects.placed p (rw (n.0) at h) ];
+      bases = λ p h. elim (eqb_tells o p) [ inl y ↦ rw (← y.1) may.base | inr n ↦ g.objects.bases p (rw (n.0) at h) ];
       shaded = λ p h. elim (eqb_tells o p) [ inl y ↦ rw (y.0) refl | inr n ↦ rw (n.0) (g.objects.shaded p (rw (n.0) at h)) ];
       grey = λ p h. elim (eqb_tells o p) [ inl y ↦ absurd (rw (y.0) at h) | inr n ↦ rw (n.0) (g.objects.grey p (rw (n.0) at h)) ];
       placing = λ p b h. elim (eqb_tells o p) [ inl y ↦ absurd (black-placing (rw (y.0) at h)) | inr n ↦ (λ e. g.objects.placing p b (rw (n.0) at h) (sym (alloc-other know.rows s.words o p n.1) ∙ e)) ];
     };
     counts = g.counts;
     entries = entries-apart (entry_words s.words) s.filled s.colour o Black (λ b j e. placing-buffered (sym may.reserved ∙ e)) (λ b j e. cc) g.entries;
-    values = values-set then.extents (field_words s.words) (global_words s.words) s.registers then.since f d (o + 1) since values;
-    cursor = g.cursor;
+    values = values-set then.extents (seen_row s.extents.base (field_words s.words)) (seen_row s.extents.base (global_words s.words)) s.registers then.since f d (o + 1) since values;
+    cursor = cursor-coloured know z a s g o Black (λ h. cc);
     passes = g.passes;
     stacks = stacks-set z.number (scanned_words s.words) s.registers f d (o + 1) may.goes_on g.stacks;
     pictured = pictured know z a s g (Place o size pointer noscan f d) may;
@@ -174,11 +175,14 @@ module _ (know : Known) (z : Cycle) (a : ℕ) (s : Shared) (g : Good z s) where
     since : IsSince then.since (o + 1)
     since p e = let same : o ≡ p = omega (arith, e) in elim (eqb_tells o p) [ inl y ↦ rw (y.0) refl | inr n ↦ absurd (n.1 same) ]
 
-    nil : (p j : ℕ) → IsPointer then.extents p j → ((eqb o p ≡ true) × (o ≡ p)) → (q : ℕ) → s.words (Cell.Field (p + j)) ≡ q + 1 → ⊥
+    none : {v : ℕ} (q : ℕ) → v ≡ q + 1 → v ≡ 0 → ⊥
+    none q x y = omega (arith, x, y)
+
+    nil : (p j : ℕ) → IsPointer then.extents p j → ((eqb o p ≡ true) × (o ≡ p)) → (q : ℕ) → seen_field s (p + j) ≡ q + 1 → ⊥
     nil p j l y q e =
-        let zero : s.words (Cell.Field (o + j)) ≡ 0 = may.clear j (rw (y.0) at l.0) (rw (y.0) at l.1) in
-        let same : s.words (Cell.Field (o + j)) ≡ q + 1 = rw (y.1) e in
-        omega arith
+        let zero : seen_field s (o + j) ≡ 0 = ap (seen_word s.extents.base) (may.clear j (rw (y.0) at l.0) (rw (y.0) at l.1)) in
+        let same : seen_field s (o + j) ≡ q + 1 = rw (y.1) e in
+        none q same zero
 
     black-placing : {b : ℕ} → Black ≡ Placing b → ⊥
     black-placing e = cc
@@ -187,13 +191,13 @@ module _ (know : Known) (z : Cycle) (a : ℕ) (s : Shared) (g : Good z s) where
     placing-buffered e = cc
 
     -- without the register that names it
-    values : ValuesGood then.extents (field_words s.words) (global_words s.words) s.registers then.since
+    values : ValuesGood then.extents (seen_row s.extents.base (field_words s.words)) (seen_row s.extents.base (global_words s.words)) s.registers then.since
     values = record {
       fields = λ p j h l q e. elim (eqb_tells o p) [
         | inl y ↦ absurd (nil p j l y q e)
-        | inr n ↦ since-grows o (s.words (Cell.Field (p + j))) (g.values.fields p j (rw (n.0) at h) (rw (n.0) at l)) q e
+        | inr n ↦ since-grows o (seen_field s (p + j)) (g.values.fields p j (rw (n.0) at h) (rw (n.0) at l)) q e
       ];
-      globals = λ j. since-grows o (s.words (Cell.Global j)) (g.values.globals j);
+      globals = λ j. since-grows o (seen_global s j) (g.values.globals j);
       stacks = λ h r. since-grows o (s.registers h r) (g.values.stacks h r);
     }
 

@@ -1,6 +1,6 @@
 -- The shared state of marking: the words, how far marking is with each object and each global, and which objects no path leads to any more.
-use Rattle.std.specs.Prelude.{◌≡◌, ℕ, ◌+◌, ◌<◌, ◌^◌, ◌⊎◌, Bool, true, false}
-use Rattle.gh_marks.specs.Vocabulary.{Arena, buffer_words, Buffers, Cell, field_words, global_words, mark_words, Row, row_bit, Words}
+use Rattle.std.specs.Prelude.{◌≡◌, ◌≢◌, ℕ, ◌+◌, ◌-◌, ◌<◌, ◌^◌, ◌⊎◌, Bool, true, false, ◌==◌, if◌then◌else◌}
+use Rattle.gh_marks.specs.Vocabulary.{Arena, buffer_words, Buffers, Cell, field_words, global_words, Row, row_bit, Words}
 
 -- A cycle of marking: the heap that it is in, and its number. A stack whose word is this number is black.
 pub record Cycle : Type 0 where
@@ -32,6 +32,8 @@ pub data Progress : Type 0 where
 
 -- What the words of an object are: how many, and which of them are pointer fields, counted from its first; and whether its span is one of objects without such. It is said of an object when the cycle begins or when the object is placed, and is not changed then.
 pub record Extents : Type 0 where
+  -- of each heap word the first word of the object that it lies in
+  pub base : Row
   pub size : Row
   pub pointer : ℕ → ℕ → Bool
   pub noscan : ℕ → Bool
@@ -63,9 +65,22 @@ scanned_words words g = words (Cell.Scanned g)
 abbrev pub buffers_as_held : Words → Row → Buffers
 buffers_as_held words filled = record { words = buffer_words words; entries = entry_words words; filled = filled }
 
--- the rows that paths are made of
+-- What marking sees of a word that is 0 or 1 more than a heap word: 0, or 1 more than the first word of the object that the heap word lies in.
+abbrev pub seen_word : (base : Row) → (word : ℕ) → ℕ
+seen_word base word = if word == 0 then 0 else base (word - 1) + 1
+
+abbrev pub seen_row : (base : Row) → Row → Row
+seen_row base row x = seen_word base (row x)
+
+-- what it sees of a heap word, and of a global
+abbrev pub seen_field : Shared → (x : ℕ) → ℕ
+seen_field s x = seen_word s.extents.base (s.words (Cell.Field x))
+
+abbrev pub seen_global : Shared → (i : ℕ) → ℕ
+seen_global s i = seen_word s.extents.base (s.words (Cell.Global i))
+
+-- the rows that paths are made of, as they are seen
 pub record Rows : Type 0 where
-  pub mark : Row
   pub field : Row
   pub global : Row
   pub colour : ℕ → Colour
@@ -73,16 +88,21 @@ pub record Rows : Type 0 where
   pub extents : Extents
 
 abbrev pub rows : Shared → Rows
-rows s = record { mark = mark_words s.words; field = field_words s.words; global = global_words s.words; colour = s.colour; progress = s.progress; extents = s.extents }
+rows s = record { field = seen_row s.extents.base (field_words s.words); global = seen_row s.extents.base (global_words s.words); colour = s.colour; progress = s.progress; extents = s.extents }
 
--- What is said of an object and of a value, which is 0 or 1 more than a heap word.
+-- What is said of an object and of a value, which is 0 or 1 more than the first word of an object.
 
-abbrev pub IsMarked : (mark : Row) → (o : ℕ) → Type 0
-IsMarked mark o = row_bit mark o ≡ 1
+-- its mark bit is set
+abbrev pub HasMark : (mark : Row) → (o : ℕ) → Type 0
+HasMark mark o = row_bit mark o ≡ 1
+
+-- it was met by marking
+abbrev pub IsMarked : (ℕ → Colour) → (o : ℕ) → Type 0
+IsMarked colour o = colour o ≢ White
 
 -- it names no object, or a marked one
-abbrev pub IsClean : (mark : Row) → (value : ℕ) → Type 0
-IsClean mark value = (o : ℕ) → value ≡ o + 1 → IsMarked mark o
+abbrev pub IsClean : (ℕ → Colour) → (value : ℕ) → Type 0
+IsClean colour value = (o : ℕ) → value ≡ o + 1 → IsMarked colour o
 
 -- it names no object, or one of the cycle
 abbrev pub IsSince : (ℕ → Bool) → (value : ℕ) → Type 0
@@ -127,13 +147,13 @@ IsPointer e o k = (k < e.size o) × (e.pointer o k ≡ true) × (e.noscan o ≡ 
 
 -- A white object that marking will still find: a path through white objects leads to it from a field of a grey object or from a global that is not scanned. A stack that is scanned may hold such an object, though nothing will look at the stack again.
 pub data Protected (globals : ℕ) (r : Rows) : ℕ → Type 0 where
-  from_grey : (p k o : ℕ) → IsGrey (r.colour p) → IsPointer r.extents p k → r.field (p + k) ≡ o + 1 → row_bit r.mark o ≡ 0 → Protected globals r o
-  from_global : (i o : ℕ) → GlobalWaits (r.progress i) → i < globals → r.global i ≡ o + 1 → row_bit r.mark o ≡ 0 → Protected globals r o
-  from_white : (p k o : ℕ) → Protected globals r p → IsPointer r.extents p k → r.field (p + k) ≡ o + 1 → row_bit r.mark o ≡ 0 → Protected globals r o
+  from_grey : (p k o : ℕ) → IsGrey (r.colour p) → IsPointer r.extents p k → r.field (p + k) ≡ o + 1 → r.colour o ≡ White → Protected globals r o
+  from_global : (i o : ℕ) → GlobalWaits (r.progress i) → i < globals → r.global i ≡ o + 1 → r.colour o ≡ White → Protected globals r o
+  from_white : (p k o : ℕ) → Protected globals r p → IsPointer r.extents p k → r.field (p + k) ≡ o + 1 → r.colour o ≡ White → Protected globals r o
 
 -- marked or protected
 abbrev pub IsGuarded : (globals : ℕ) → Rows → (o : ℕ) → Type 0
-IsGuarded globals r o = IsMarked r.mark o ⊎ Protected globals r o
+IsGuarded globals r o = IsMarked r.colour o ⊎ Protected globals r o
 
 -- it names no object, or a guarded one
 abbrev pub IsSafe : (globals : ℕ) → Rows → (value : ℕ) → Type 0

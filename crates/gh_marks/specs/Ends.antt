@@ -1,7 +1,7 @@
 -- The begin of marking and its end.
 use Rattle.std.specs.Prelude.{◌≡◌, ℕ, ◌+◌, ◌*◌, ◌<◌, ◌≤◌, ◌⊎◌, true, false}
 use Rattle.gh_marks.specs.Vocabulary.{alloc_words, buffer_of, Cell, END, holder_in, mark_words, REGISTERS, row_bit}
-use Rattle.gh_marks.specs.Colours.{Cycle, IsGrey, IsMarked, IsPointer, IsSince, Scanned, Shared, Untouched, White}
+use Rattle.gh_marks.specs.Colours.{Cycle, HasMark, IsGrey, IsPointer, IsSince, Scanned, seen_field, seen_global, Shared, Untouched, White}
 use Rattle.gh_marks.specs.Seats.{Hands, nothing}
 
 -- As marking is switched on: nothing is marked, in a buffer or scanned, and the objects of the cycle lie in the heap, are placed, and closed under what they, globals and registers name.
@@ -18,8 +18,9 @@ pub record Opens (z : Cycle) (s : Shared) : Type 0 where
   pub below : (o : ℕ) → s.since o ≡ true → o < 1024 * z.arena.layout.pages
   pub sizes : (o : ℕ) → s.since o ≡ true → s.extents.size o ≤ 1024 * z.arena.layout.pages
   pub placed : (o : ℕ) → s.since o ≡ true → row_bit (alloc_words s.words) o ≡ 1
-  pub fields : (o k : ℕ) → s.since o ≡ true → IsPointer s.extents o k → IsSince s.since (s.words (Cell.Field (o + k)))
-  pub globals : (i : ℕ) → IsSince s.since (s.words (Cell.Global i))
+  pub bases : (o : ℕ) → s.since o ≡ true → s.extents.base o ≡ o
+  pub fields : (o k : ℕ) → s.since o ≡ true → IsPointer s.extents o k → IsSince s.since (seen_field s (o + k))
+  pub globals : (i : ℕ) → IsSince s.since (seen_global s i)
   pub registers : (g d : ℕ) → IsSince s.since (s.registers g d)
 
 -- What the coordinator finds at the end of marking, while each seat has acknowledged a stop, with nothing in hand: no buffer that nobody holds has an entry, the cursor is past the last global, and no stack's word is that of a cycle before. The seats gave their buffers back before they acknowledged, so it has to look after that: an entry that a seat still held would be seen by nobody.
@@ -37,9 +38,9 @@ pub record IsDone (z : Cycle) (s : Shared) : Type 0 where
 
 -- a path of pointer fields leads to the object from a global or from a register
 pub data Reached (z : Cycle) (s : Shared) : ℕ → Type 0 where
-  from_global : (i o : ℕ) → i < z.arena.layout.globals → s.words (Cell.Global i) ≡ o + 1 → Reached z s o
+  from_global : (i o : ℕ) → i < z.arena.layout.globals → seen_global s i ≡ o + 1 → Reached z s o
   from_register : (g d o : ℕ) → g < z.arena.layout.goroutines → d < REGISTERS → s.registers g d ≡ o + 1 → Reached z s o
-  from_field : (p k o : ℕ) → Reached z s p → IsPointer s.extents p k → s.words (Cell.Field (p + k)) ≡ o + 1 → Reached z s o
+  from_field : (p k o : ℕ) → Reached z s p → IsPointer s.extents p k → seen_field s (p + k) ≡ o + 1 → Reached z s o
 
 abbrev pub EachReachedIsMarked : Cycle → Shared → Type 0
-EachReachedIsMarked z s = (o : ℕ) → Reached z s o → IsMarked (mark_words s.words) o
+EachReachedIsMarked z s = (o : ℕ) → Reached z s o → HasMark (mark_words s.words) o

@@ -1,7 +1,7 @@
 -- What holds at every moment while marking is on, group by group over the rows that each reads; and that there is a picture of the state.
 use Rattle.std.specs.Prelude.{◌≡◌, ◌≢◌, ℕ, zero, suc, ◌+◌, ◌<◌, ◌≤◌, ◌⊎◌, Bool, true, false}
 use Rattle.gh_marks.specs.Vocabulary.{alloc_words, AreCounted, bit, Cell, END, field_words, global_words, mark_words, Row, row_bit, seats_of}
-use Rattle.gh_marks.specs.Colours.{Buffered, Colour, Cycle, Extents, IsClean, IsGrey, IsPointer, IsShaded, IsSince, Placing, Progress, Read, Shared, Untouched, buffers_as_held, entry_words, mark_of, scanned_words}
+use Rattle.gh_marks.specs.Colours.{Buffered, Colour, Cycle, Extents, IsClean, IsGrey, IsPointer, IsShaded, IsSince, Placing, Progress, Read, seen_row, Shared, Untouched, buffers_as_held, entry_words, mark_of, scanned_words}
 use Rattle.gh_marks.specs.Shows.{IsPictured}
 
 -- A heap word's mark bit is set exactly where its colour is not white.
@@ -11,6 +11,8 @@ MarksGood mark colour = (o : ℕ) → row_bit mark o ≡ mark_of (colour o)
 -- The objects of the cycle are placed, and all that is shaded is one: so what was dead when the cycle began is never marked, and is freed after it.
 pub record ObjectsGood (alloc : Row) (colour : ℕ → Colour) (since : ℕ → Bool) (extents : Extents) : Type 0 where
   pub placed : (o : ℕ) → since o ≡ true → row_bit alloc o ≡ 1
+  -- and the first word of an object lies in it
+  pub bases : (o : ℕ) → since o ≡ true → extents.base o ≡ o
   pub shaded : (o : ℕ) → IsShaded (colour o) → since o ≡ true
   -- what is grey may have pointer fields: an object without is done with its mark
   pub grey : (o : ℕ) → IsGrey (colour o) → extents.noscan o ≡ false
@@ -30,11 +32,11 @@ pub record ValuesGood (extents : Extents) (field global : Row) (registers : ℕ 
   pub stacks : (g d : ℕ) → IsSince since (registers g d)
 
 -- The cursor divides the globals: those below it are somebody's or scanned. The cursor alone does not say that a global is scanned, since who raised it reads the global with a later step.
-pub record CursorGood (globals gcur : ℕ) (global : Row) (progress : ℕ → Progress) (mark : Row) : Type 0 where
+pub record CursorGood (globals gcur : ℕ) (global : Row) (progress : ℕ → Progress) (colour : ℕ → Colour) : Type 0 where
   pub untouched : (i : ℕ) → i < globals → progress i ≡ Untouched → gcur ≤ i
   pub ahead : (i : ℕ) → i < globals → gcur ≤ i → progress i ≡ Untouched
   -- what was read there stands there still, or the word that came in its place is clean
-  pub read : (i a v : ℕ) → progress i ≡ Read a v → (global i ≡ v) ⊎ IsClean mark (global i)
+  pub read : (i a v : ℕ) → progress i ≡ Read a v → (global i ≡ v) ⊎ IsClean colour (global i)
 
 -- how many of the first so many seats these are
 abbrev pub seats_among : (ℕ → Bool) → (seats : ℕ) → ℕ
@@ -57,8 +59,8 @@ pub record Good (z : Cycle) (s : Shared) : Type 0 where
   pub objects : ObjectsGood (alloc_words s.words) s.colour s.since s.extents
   pub counts : AreCounted (buffers_as_held s.words s.filled)
   pub entries : EntriesGood (entry_words s.words) s.filled s.colour
-  pub values : ValuesGood s.extents (field_words s.words) (global_words s.words) s.registers s.since
-  pub cursor : CursorGood z.arena.layout.globals (s.words Cell.Gcur) (global_words s.words) s.progress (mark_words s.words)
+  pub values : ValuesGood s.extents (seen_row s.extents.base (field_words s.words)) (seen_row s.extents.base (global_words s.words)) s.registers s.since
+  pub cursor : CursorGood z.arena.layout.globals (s.words Cell.Gcur) (seen_row s.extents.base (global_words s.words)) s.progress s.colour
   pub passes : PassesGood z.arena.layout.globals (seats_of z.arena.layout) (s.words Cell.Gcur) s.passed
   pub stacks : StacksGood z.number (scanned_words s.words) s.registers
   -- There is a picture of the state that has the invariants of gh_tri, with room for as many objects more as one likes. They say what black objects, scanned globals and scanned stacks hold.

@@ -1,7 +1,7 @@
 -- What holds of the moves of marking.
 use Rattle.std.specs.Prelude.{◌≡◌, ◌≢◌, ℕ, ◌+◌, ◌-◌, ◌^◌, ◌<◌, Bool, true, Some, None}
 use Rattle.gh_marks.specs.Vocabulary.{AreWords, Ask, Cell, Held, IsOf, mark_words, opening_words, row_bit}
-use Rattle.gh_marks.specs.Colours.{Cycle, IsClean, IsPointer, IsSince, Shared}
+use Rattle.gh_marks.specs.Colours.{Cycle, IsClean, IsPointer, IsSince, seen_field, seen_global, seen_word, Shared}
 use Rattle.gh_marks.specs.Ends.{EachReachedIsMarked, IsDone, IsFoundAtTheEnd, Opens}
 use Rattle.gh_marks.specs.Good.{Good}
 use Rattle.gh_marks.specs.Moves.{Blacken, ClaimGlobal, EndStack, Enter, GiveBuffer, IsDead, Keeps, LeavesStacks, May, Move, Others, PassGlobals, Place, PutField, PutGlobal, Quiet, ReadGlobal, Reserve, ScanGlobal, ScanStack, SetRegister, Shade, ShadeAgain, ShadeFlat, TakeBuffer, TakeEntry, Went, moved}
@@ -55,7 +55,7 @@ pub record HandsFollow (z : Cycle) (a : ℕ) (s : Shared) (h : InHand) : Type 0 
   pub put_global : (i value : ℕ) → Hands a (moved z a s (PutGlobal i value)) h
   pub claimed : (i : ℕ) → May z a s (ClaimGlobal i) → h.claim ≡ NoClaim → Hands a (moved z a s (ClaimGlobal i)) (record h { claim = ClaimOf i })
   pub passed : (i : ℕ) → Hands a (moved z a s (PassGlobals i)) h
-  pub read : (i : ℕ) → h.claim ≡ ClaimOf i → Hands a (moved z a s (ReadGlobal i)) (record h { claim = ReadOf i (s.words (Cell.Global i)) })
+  pub read : (i : ℕ) → h.claim ≡ ClaimOf i → Hands a (moved z a s (ReadGlobal i)) (record h { claim = ReadOf i (seen_global s i) })
   pub scanned : (i value : ℕ) → h.claim ≡ ReadOf i value → Hands a (moved z a s (ScanGlobal i value)) (record h { claim = NoClaim })
   pub set : (g d value : ℕ) → Hands a (moved z a s (SetRegister g d value)) h
   pub scanned_stack : (g : ℕ) → Hands a (moved z a s (ScanStack g)) h
@@ -68,12 +68,16 @@ EachHandFollows = (z : Cycle) (a : ℕ) (s : Shared) (h : InHand) → Good z s �
 
 -- What a seat relies on lasts as long as others leave what they leave.
 pub record FactsLast (z : Cycle) (a : ℕ) (s t : Shared) : Type 0 where
-  pub clean : (value : ℕ) → IsClean (mark_words s.words) value → IsClean (mark_words t.words) value
+  pub clean : (value : ℕ) → IsClean s.colour value → IsClean t.colour value
   pub since : (value : ℕ) → IsSince s.since value → IsSince t.since value
+  -- what is seen of a word
+  pub seen : (w : ℕ) → IsSince s.since (seen_word s.extents.base w) → seen_word t.extents.base w ≡ seen_word s.extents.base w
+  pub word : (w : ℕ) → IsSince s.since (seen_word s.extents.base w) → IsClean s.colour (seen_word s.extents.base w) → IsClean t.colour (seen_word t.extents.base w)
+  pub word_since : (w : ℕ) → IsSince s.since (seen_word s.extents.base w) → IsSince t.since (seen_word t.extents.base w)
   -- a word that was clean, or held this and nothing else, is so still
-  pub field : (o k : ℕ) → s.since o ≡ true → IsPointer s.extents o k → IsClean (mark_words s.words) (s.words (Cell.Field (o + k))) → IsClean (mark_words t.words) (t.words (Cell.Field (o + k)))
-  pub global : (i : ℕ) → IsClean (mark_words s.words) (s.words (Cell.Global i)) → IsClean (mark_words t.words) (t.words (Cell.Global i))
-  pub register : (g d : ℕ) → IsOf z.arena a g → IsClean (mark_words s.words) (s.registers g d) → IsClean (mark_words t.words) (t.registers g d)
+  pub field : (o k : ℕ) → s.since o ≡ true → IsPointer s.extents o k → IsClean s.colour (seen_field s (o + k)) → IsClean t.colour (seen_field t (o + k))
+  pub global : (i : ℕ) → IsClean s.colour (seen_global s i) → IsClean t.colour (seen_global t i)
+  pub register : (g d : ℕ) → IsOf z.arena a g → IsClean s.colour (s.registers g d) → IsClean t.colour (t.registers g d)
   pub pointer : (o k : ℕ) → s.since o ≡ true → IsPointer s.extents o k → IsPointer t.extents o k
   pub pointer_was : (o k : ℕ) → s.since o ≡ true → IsPointer t.extents o k → IsPointer s.extents o k
 

@@ -1,8 +1,8 @@
 -- The moves by which an actor changes the shared state of marking, when it may make them, and what they leave to the others.
-use Rattle.std.proofs.Common.{arith, ◌≡◌, ◌≢◌, ℕ, ◌+◌, ◌*◌, ◌-◌, ◌/◌, ◌%◌, ◌^◌, ◌<◌, ◌≤◌, ◌⊎◌, ◌↔◌, Bool, true, false, bit_or}
-use Rattle.gh_marks.specs.Vocabulary.{alloc_words, Ask, buffer_word, Cell, cell_of, effect, END, ENTRIES, holder_in, IsOf, mark_words, put, REGISTERS, row_bit, seats_of, Words}
+use Rattle.std.proofs.Common.{ap, arith, eq-eqb, eqb, eqb-true, refl, sym, ◌∙◌, ◌≡◌, ◌≢◌, ℕ, ◌+◌, ◌*◌, ◌-◌, ◌/◌, ◌%◌, ◌^◌, ◌<◌, ◌≤◌, ◌⊎◌, ◌↔◌, Bool, true, false, bit_or}
+use Rattle.gh_marks.specs.Vocabulary.{alloc_words, Ask, buffer_word, Cell, cell_of, effect, END, ENTRIES, holder_in, IsOf, mark_words, put, REGISTERS, Row, row_bit, seats_of, Words}
 use Rattle.gh_heap.specs.Moves.{update, update_at}
-use Rattle.gh_marks.specs.Colours.{Black, Buffered, Claimed, Cycle, Extents, IsClean, IsMarked, IsPointer, IsSince, Pending, Placing, Read, Scanned, Shared, Taken, White}
+use Rattle.gh_marks.specs.Colours.{Black, Buffered, Claimed, Cycle, Extents, HasMark, IsClean, IsMarked, IsPointer, IsSince, Pending, Placing, Read, Scanned, seen_field, seen_global, seen_word, Shared, Taken, White}
 
 -- A change of the shared state by a step, words and ghosts together. A step is one move or two.
 pub data Move : Type 0 where
@@ -63,7 +63,7 @@ abbrev pub set_alloc : Words → (o : ℕ) → Words
 set_alloc words o = put words (Cell.Alloc (o / 64)) (with_bit (words (Cell.Alloc (o / 64))) o)
 
 abbrev pub with_extent : Extents → (o size : ℕ) → (pointer : ℕ → Bool) → (noscan : Bool) → Extents
-with_extent e o size pointer noscan = record { size = update e.size o size; pointer = update e.pointer o pointer; noscan = update e.noscan o noscan }
+with_extent e o size pointer noscan = record { base = e.base; size = update e.size o size; pointer = update e.pointer o pointer; noscan = update e.noscan o noscan }
 
 abbrev pub moved : Cycle → (a : ℕ) → Shared → Move → Shared
 moved z a s (Quiet step) = record s { words = effect s.words step }
@@ -79,7 +79,7 @@ moved z a s (PutField x value) = record s { words = put s.words (Cell.Field x) v
 moved z a s (PutGlobal i value) = record s { words = put s.words (Cell.Global i) value }
 moved z a s (ClaimGlobal i) = record s { words = put s.words Cell.Gcur (i + 1); progress = update s.progress i (Claimed a) }
 moved z a s (PassGlobals i) = record s { words = put s.words Cell.Gcur (i + 1); passed = update s.passed a true }
-moved z a s (ReadGlobal i) = record s { progress = update s.progress i (Read a (s.words (Cell.Global i))) }
+moved z a s (ReadGlobal i) = record s { progress = update s.progress i (Read a (seen_global s i)) }
 moved z a s (ScanGlobal i value) = record s { progress = update s.progress i Scanned }
 moved z a s (SetRegister g d value) = record s { registers = update_at s.registers g d value }
 moved z a s (ScanStack g) = record s { words = put s.words (Cell.Scanned g) z.number }
@@ -115,8 +115,8 @@ pub record MayTakeEntry (a : ℕ) (s : Shared) (b o : ℕ) : Type 0 where
 
 -- A store behind the write barrier. The word that it overwrites was shaded before, so that it cuts no path to a white object; and so was the value, so that nothing which is scanned comes to name a white object.
 pub record BehindBarrier (s : Shared) (was value : ℕ) : Type 0 where
-  pub old : IsClean (mark_words s.words) was
-  pub new : IsClean (mark_words s.words) value
+  pub old : IsClean s.colour was
+  pub new : IsClean s.colour value
   pub since : IsSince s.since value
 
 -- a seat that has not done so in this cycle
@@ -130,8 +130,8 @@ pub record MayPassGlobals (z : Cycle) (a : ℕ) (s : Shared) (i : ℕ) : Type 0 
 pub data MayBring (z : Cycle) (s : Shared) (g : ℕ) : (value : ℕ) → Type 0 where
   from_nothing : MayBring z s g 0
   from_register : (r : ℕ) → r < REGISTERS → MayBring z s g (s.registers g r)
-  from_field : (r o k : ℕ) → r < REGISTERS → s.registers g r ≡ o + 1 → IsPointer s.extents o k → MayBring z s g (s.words (Cell.Field (o + k)))
-  from_global : (i : ℕ) → i < z.arena.layout.globals → MayBring z s g (s.words (Cell.Global i))
+  from_field : (r o k : ℕ) → r < REGISTERS → s.registers g r ≡ o + 1 → IsPointer s.extents o k → MayBring z s g (seen_field s (o + k))
+  from_global : (i : ℕ) → i < z.arena.layout.globals → MayBring z s g (seen_global s i)
 
 -- a register of a goroutine that goes on, and what that can bring into it
 pub record MaySetRegister (z : Cycle) (a : ℕ) (s : Shared) (g value : ℕ) : Type 0 where
@@ -144,43 +144,61 @@ pub record MaySetRegister (z : Cycle) (a : ℕ) (s : Shared) (g value : ℕ) : T
 pub record MayScanStack (z : Cycle) (a : ℕ) (s : Shared) (g : ℕ) : Type 0 where
   pub own : IsOf z.arena a g
   pub goes_on : s.words (Cell.Scanned g) ≢ END
-  pub clean : (d : ℕ) → d < REGISTERS → IsClean (mark_words s.words) (s.registers g d)
+  pub clean : (d : ℕ) → d < REGISTERS → IsClean s.colour (s.registers g d)
 
 -- a white heap word in an empty slot
 pub record MayReserve (s : Shared) (o : ℕ) : Type 0 where
   pub white : s.colour o ≡ White
   pub empty : row_bit (alloc_words s.words) o ≢ 1
 
--- Its slot is marked, lies in the heap, and its pointer fields are clear; and a goroutine that goes on has it in a register.
+-- Its slot is marked, lies in the heap, begins with its first word, and its pointer fields are clear; and a goroutine that goes on has it in a register.
 pub record MayPlace (z : Cycle) (a : ℕ) (s : Shared) (o size : ℕ) (pointer : ℕ → Bool) (g d : ℕ) : Type 0 where
   pub own : IsOf z.arena a g
   pub goes_on : s.words (Cell.Scanned g) ≢ END
   pub register : d < REGISTERS
   pub reserved : s.colour o ≡ Placing a
   pub within : size ≤ 1024 * z.arena.layout.pages
+  pub base : s.extents.base o ≡ o
   pub clear : (k : ℕ) → k < size → pointer k ≡ true → s.words (Cell.Field (o + k)) ≡ 0
 
 abbrev pub May : Cycle → (a : ℕ) → Shared → Move → Type 0
 May z a s (Quiet step) = IsQuietInMarking s step
 May z a s (Shade o) = MayShade s o × (s.extents.noscan o ≡ false)
 May z a s (ShadeFlat o) = MayShade s o × (s.extents.noscan o ≡ true)
-May z a s (ShadeAgain o) = IsMarked (mark_words s.words) o
+May z a s (ShadeAgain o) = HasMark (mark_words s.words) o
 May z a s (TakeBuffer b) = holder_in (s.words (Cell.Buffer b)) ≡ 0
 May z a s (GiveBuffer b) = HasBuffer a s b
 May z a s (Enter b o) = MayEnter a s b o
 May z a s (TakeEntry b o) = MayTakeEntry a s b o
-May z a s (Blacken o) = (s.colour o ≡ Taken a) × ((k : ℕ) → IsPointer s.extents o k → IsClean (mark_words s.words) (s.words (Cell.Field (o + k))))
-May z a s (PutField x value) = BehindBarrier s (s.words (Cell.Field x)) value
-May z a s (PutGlobal i value) = BehindBarrier s (s.words (Cell.Global i)) value
+May z a s (Blacken o) = (s.colour o ≡ Taken a) × ((k : ℕ) → IsPointer s.extents o k → IsClean s.colour (seen_field s (o + k)))
+May z a s (PutField x value) = BehindBarrier s (seen_field s x) (seen_word s.extents.base value)
+May z a s (PutGlobal i value) = BehindBarrier s (seen_global s i) (seen_word s.extents.base value)
 May z a s (ClaimGlobal i) = (s.words Cell.Gcur ≡ i) × (i < z.arena.layout.globals)
 May z a s (PassGlobals i) = MayPassGlobals z a s i
 May z a s (ReadGlobal i) = s.progress i ≡ Claimed a
-May z a s (ScanGlobal i value) = (s.progress i ≡ Read a value) × IsClean (mark_words s.words) (s.words (Cell.Global i))
+May z a s (ScanGlobal i value) = (s.progress i ≡ Read a value) × IsClean s.colour (seen_global s i)
 May z a s (SetRegister g d value) = MaySetRegister z a s g value
 May z a s (ScanStack g) = MayScanStack z a s g
 May z a s (EndStack g) = IsOf z.arena a g
 May z a s (Reserve o) = MayReserve s o
 May z a s (Place o size pointer noscan g d) = MayPlace z a s o size pointer g d
+
+-- what is seen of a reference
+pub seen_some : (base : Row) (r : ℕ) → 1 ≤ r → seen_word base r ≡ base (r - 1) + 1
+seen_some base r some = by (eqb r 0) refl where
+  by : (b : Bool) → eqb r 0 ≡ b → seen_word base r ≡ base (r - 1) + 1
+  by true e = let none : r ≡ 0 = eqb-true r 0 e in absurd (omega (arith, none, some))
+  by false e = rw e refl
+
+-- where each object is named by its first word alone, what is seen of a word is the word
+pub seen_is : (base : Row) → ((x : ℕ) → base x ≡ x) → (w : ℕ) → seen_word base w ≡ w
+seen_is base is w = by (eqb w 0) refl where
+  by : (b : Bool) → eqb w 0 ≡ b → seen_word base w ≡ w
+  by true e = let none : w ≡ 0 = eqb-true w 0 e in ap (seen_word base) none ∙ sym none
+  by false e =
+      let some : w ≢ 0 = λ z. absurd (cc (e, eq-eqb w 0 z)) in
+      let seen : seen_word base w ≡ base (w - 1) + 1 = rw e refl in
+      omega (arith, seen, is (w - 1), some)
 
 -- What moves leave.
 
@@ -192,11 +210,14 @@ pub record SameExtent (e f : Extents) (o : ℕ) : Type 0 where
 
 -- What moves leave of what a seat knows: marks grow, a word that changes is clean then, and the stacks of its goroutines stay. The moves of all others leave it, and so do those of the seat itself that change no stack.
 pub record Keeps (z : Cycle) (a : ℕ) (s t : Shared) : Type 0 where
-  pub marks : (o : ℕ) → IsMarked (mark_words s.words) o → IsMarked (mark_words t.words) o
+  pub marks : (o : ℕ) → HasMark (mark_words s.words) o → HasMark (mark_words t.words) o
+  pub colours : (o : ℕ) → IsMarked s.colour o → IsMarked t.colour o
   pub since : (o : ℕ) → s.since o ≡ true → t.since o ≡ true
   pub extents : (o : ℕ) → s.since o ≡ true → SameExtent s.extents t.extents o
-  pub fields : (o k : ℕ) → s.since o ≡ true → IsPointer s.extents o k → (t.words (Cell.Field (o + k)) ≡ s.words (Cell.Field (o + k))) ⊎ IsClean (mark_words t.words) (t.words (Cell.Field (o + k)))
-  pub globals : (i : ℕ) → (t.words (Cell.Global i) ≡ s.words (Cell.Global i)) ⊎ IsClean (mark_words t.words) (t.words (Cell.Global i))
+  pub fields : (o k : ℕ) → s.since o ≡ true → IsPointer s.extents o k → (seen_field t (o + k) ≡ seen_field s (o + k)) ⊎ IsClean t.colour (seen_field t (o + k))
+  pub globals : (i : ℕ) → (seen_global t i ≡ seen_global s i) ⊎ IsClean t.colour (seen_global t i)
+  -- the object that a heap word lies in, where it is one of the cycle
+  pub bases : (x : ℕ) → s.since (s.extents.base x) ≡ true → t.extents.base x ≡ s.extents.base x
   pub registers : (g d : ℕ) → IsOf z.arena a g → t.registers g d ≡ s.registers g d
   pub stacks : (g : ℕ) → IsOf z.arena a g → t.words (Cell.Scanned g) ≡ s.words (Cell.Scanned g)
 

@@ -1,8 +1,8 @@
 -- What holds of the picture of marking: each move of marking is drawn by moves of the picture; a cycle's first picture comes of one as at a cycle's begin; and what the invariants say.
 use Rattle.std.specs.Prelude.{◌≡◌, ℕ, ◌+◌, ◌<◌, ◌≤◌}
-use Rattle.gh_marks.specs.Vocabulary.{Cell, Invariants, IsMarkingDone, IsOpeningPicture, mark_words, REGISTERS, Row, Tricolour}
+use Rattle.gh_marks.specs.Vocabulary.{Cell, Invariants, IsMarkingDone, IsOpeningPicture, REGISTERS, Row, Tricolour}
 use Rattle.gh_tri.specs.Steps.{Goes}
-use Rattle.gh_marks.specs.Colours.{Black, Cycle, IsClean, IsPointer, IsSafe, Scanned, Shared, rows}
+use Rattle.gh_marks.specs.Colours.{Black, Cycle, IsClean, IsPointer, IsSafe, Scanned, seen_field, seen_global, Shared, rows}
 use Rattle.gh_marks.specs.Ends.{IsDone, Opens}
 use Rattle.gh_marks.specs.Good.{Good}
 use Rattle.gh_marks.specs.Moves.{May, Move, Went, goes, moved, stays}
@@ -40,8 +40,8 @@ CyclesBeginDrawn = (z : Cycle) (s : Shared) (room : ℕ) → Opens z s → Begin
 
 -- What the picture's invariants say of every state: what a scanned global, a field of a black object and a register of a stack that was scanned hold.
 pub record ThePictureSays (z : Cycle) (s : Shared) : Type 0 where
-  pub globals : (i : ℕ) → i < z.arena.layout.globals → s.progress i ≡ Scanned → IsClean (mark_words s.words) (s.words (Cell.Global i))
-  pub blacks : (o k : ℕ) → s.colour o ≡ Black → IsPointer s.extents o k → IsClean (mark_words s.words) (s.words (Cell.Field (o + k)))
+  pub globals : (i : ℕ) → i < z.arena.layout.globals → s.progress i ≡ Scanned → IsClean s.colour (seen_global s i)
+  pub blacks : (o k : ℕ) → s.colour o ≡ Black → IsPointer s.extents o k → IsClean s.colour (seen_field s (o + k))
   pub stacks : (g d : ℕ) → g < z.arena.layout.goroutines → d < REGISTERS → s.words (Cell.Scanned g) ≡ z.number → IsSafe z.arena.layout.globals (rows s) (s.registers g d)
 
 abbrev pub WhatThePictureSays : Type 0

@@ -34,5 +34,5 @@ pub record Hands (a : ℕ) (s : Shared) (h : InHand) : Type 0 where
   pub has : Has s.colour s.progress a h.pending h.scanning h.placing h.claim
 
 -- the first few of a row, or of the words of an object, are clean
-abbrev pub CleanBelow : (mark row : Row) → (x : ℕ) → Type 0
-CleanBelow mark row x = (i : ℕ) → i < x → IsClean mark (row i)
+abbrev pub CleanBelow : (ℕ → Colour) → (row : Row) → (x : ℕ) → Type 0
+CleanBelow colour row x = (i : ℕ) → i < x → IsClean colour (row i)

@@ -3,7 +3,7 @@ use Rattle.std.specs.Prelude.{◌≡◌, ℕ, ◌+◌, ◌*◌, ◌<◌, ◌≤�
 use Rattle.gh_marks.specs.Vocabulary.{Cell, END, Invariants, REGISTERS, Row, Tricolour}
 use Rattle.gh_tri.specs.declared.Colour.{Colour as Shade}
 use Rattle.gh_tri.specs.declared.Colour.TheVariants as shade
-use Rattle.gh_marks.specs.Colours.{Black, Buffered, Claimed, Colour, Cycle, Pending, Placing, Progress, Read, Scanned, Shared, Taken, Untouched, White}
+use Rattle.gh_marks.specs.Colours.{Black, Buffered, Claimed, Colour, Cycle, Pending, Placing, Progress, Read, Scanned, seen_field, seen_global, Shared, Taken, Untouched, White}
 
 -- Grey is what is marked and has still to be scanned, wherever it is. A slot that is marked before its object is made is no object yet, and its object will be black.
 abbrev pub shade_of : Colour → Shade
@@ -26,11 +26,11 @@ is_black_stack z word = (word == z.number) || (word == END)
 
 -- field k of the object at heap word o, where it is a pointer field
 abbrev pub pointer_at : Shared → (o k : ℕ) → ℕ
-pointer_at s o k = if nat_lt k (s.extents.size o) && (s.extents.pointer o k && not (s.extents.noscan o)) then s.words (Cell.Field (o + k)) else 0
+pointer_at s o k = if nat_lt k (s.extents.size o) && (s.extents.pointer o k && not (s.extents.noscan o)) then seen_field s (o + k) else 0
 
 -- global i, where there is one
 abbrev pub global_at : Cycle → Shared → (i : ℕ) → ℕ
-global_at z s i = if nat_lt i z.arena.layout.globals then s.words (Cell.Global i) else 0
+global_at z s i = if nat_lt i z.arena.layout.globals then seen_global s i else 0
 
 -- Objects have numbers in the picture: 0 is the globals, and each of the cycle has one from 1 on, those first that there were when it began, and then each as it is made. `at` says at which heap word the object of a number begins.
 pub record Numbers (since : ℕ → Bool) (at : Row) (objects : ℕ) : Type 0 where

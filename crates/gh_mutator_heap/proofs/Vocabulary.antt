@@ -21,7 +21,7 @@ pub use Rattle.gh_base.specs.Cells.{buffers_of, put, Words}
 pub use Rattle.gh_base.specs.Holding.{FitsBuffers}
 pub use Rattle.gh_base.specs.Packing.{birth_word, bit, head_word, name_of, PackedWordsAreReadBack, page_class, page_of, page_pages, phase_of, slot_for, slot_in}
 pub use Rattle.gh_base.specs.Reading.{read_after_set, read_replicate, set_twice}
-pub use Rattle.gh_base.specs.Rows.{mark_words, Row, row_bit, RowsAreWritten}
+pub use Rattle.gh_base.specs.Rows.{Row, row_bit, RowsAreWritten}
 pub use Rattle.gh_base.specs.Shapes.{bits_at, FitsShape, is_pointer, no_shape}
 pub use Rattle.gh_base.specs.declared.cell.Ask.{Ask}
 pub use Rattle.gh_base.specs.declared.cell.Ask.TheVariants.{Or}
@@ -42,7 +42,7 @@ pub use Rattle.gh_heap.specs.Moves.{Disown, IsQuiet, IsReached, IsReady, KeepsTa
 pub use Rattle.gh_heap.specs.Objects.{Holds, InSlot, Place, Place as PlaceOf, Placed}
 pub use Rattle.gh_heap.specs.Rights.{Claims, Good as HeapGood}
 pub use Rattle.gh_heap.specs.Spans.{FitsClass, Freeing, is_own_class, IsFull, Laying, number_of_class, owned_by, owner_at, owner_in, slot_count, slot_size}
-pub use Rattle.gh_marks.specs.Colours.{IsClean, IsPointer, Placing as PlacingBy, Shared as Marking}
+pub use Rattle.gh_marks.specs.Colours.{IsClean, IsPointer, IsSince, Placing as PlacingBy, seen_word, Shared as Marking}
 pub use Rattle.gh_marks.specs.Moves.{BehindBarrier, IsQuietInMarking}
 pub use Rattle.gh_model.specs.Ever.{answer_of, answer_of_value, ever_after, field_count, load_answer, names, next_name, Reach, same_name, sets_global, store_answer, stores_value, takes_answer, with_end, with_field, with_global, with_object, with_register, with_register as ever_with}
 pub use Rattle.gh_model.specs.declared.EverValue.{EverValue}

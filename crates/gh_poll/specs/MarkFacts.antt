@@ -1,7 +1,8 @@
 -- What is known of a processor that polls, waits or leaves while marking is on, at each stage, and what each step of its own is then. It may hold a buffer between two polls. While it scans a stack it has the object besides that it shades; and at a stop, with its buffer given back, it has nothing.
-use Rattle.std.proofs.Common.{◌∙◌, sym, ◌≡◌, ◌≢◌, ℕ, ◌%◌, ◌<◌, ◌≤◌, Bool, true, false, List, [], length, slice_index, slice_index_or, Option, Some, None}
+use Rattle.std.proofs.Common.{◌∙◌, sym, ap, eqb, refl, subst, ◌≡◌, ◌≢◌, ℕ, ◌+◌, ◌-◌, ◌%◌, ◌<◌, ◌≤◌, Bool, true, false, List, [], length, slice_index, slice_index_or, Option, Some, None}
 use Rattle.gh_poll.specs.Vocabulary.{Ask, CachedSpan, Cell, END, GiveStage, Held, LeaveStage, Local, Mark, MarkStackStage, PollStage, StackStage, Value, View, WaitStage}
-use Rattle.gh_base.specs.Rows.{mark_words}
+use Rattle.gh_base.specs.Rows.{Row}
+use Rattle.gh_marks.specs.Colours.{IsSince, seen_word}
 use Rattle.gh_phase.specs.Listing as resume
 use Rattle.gh_shade.specs.Facts as shade_facts
 use Rattle.gh_shade.specs.Listing as shade
@@ -11,7 +12,7 @@ use Rattle.gh_wbuf.specs.Facts as buffer_facts
 use Rattle.gh_poll.specs.Give as give
 use Rattle.gh_poll.specs.Leave as leave
 use Rattle.gh_poll.specs.MarkStack as mark
-use Rattle.gh_poll.specs.MarkVocabulary.{Cycle, Good, Hands, InHand, IsMarked, IsOf, Keeps, KnowsObjects, Others, Shared, Steps, cell_of, nothing}
+use Rattle.gh_poll.specs.MarkVocabulary.{Cycle, Good, Hands, InHand, IsOf, Keeps, KnowsObjects, Others, Shared, Steps, cell_of, nothing}
 use Rattle.gh_poll.specs.Poll as poll
 use Rattle.gh_poll.specs.Wait as wait
 
@@ -22,16 +23,30 @@ holding_only held = buffer_facts.holding nothing held
 -- What a processor alone knows of its stacks is what the shared state says of them. The goroutines that it takes for its own are those of its seat; the registers of each that goes on name what it has in them, and the cycle in which it noted a stack as scanned is that in the stack's word.
 pub record KnowsStacks (z : Cycle) (a : ℕ) (s : Shared) (stacks : List (List Value)) (notes : List ℕ) : Type 0 where
   pub own : (g : ℕ) → g < z.arena.layout.goroutines → g % z.arena.layout.procs ≡ a → IsOf z.arena a g
-  pub registers : (g : ℕ) → IsOf z.arena a g → s.words (Cell.Scanned g) ≢ END → stack_facts.AreRegisters (s.registers g) (slice_index_or stacks g [])
+  pub registers : (g : ℕ) → IsOf z.arena a g → s.words (Cell.Scanned g) ≢ END → stack_facts.AreRegisters s.extents.base (s.registers g) (slice_index_or stacks g [])
+  -- and those name objects of the cycle
+  pub since : (g : ℕ) → IsOf z.arena a g → s.words (Cell.Scanned g) ≢ END → (d : ℕ) → d < length (slice_index_or stacks g []) → IsSince s.since (s.registers g d)
   pub noted : (g : ℕ) → IsOf z.arena a g → slice_index notes g ≡ s.words (Cell.Scanned g)
   -- there is a note for each
   pub places : z.arena.layout.goroutines ≤ length notes
+
+-- what is seen of a word stays, where that is of the cycle
+seen_stays : (since : ℕ → Bool) (b c : Row) (w : ℕ) → ((x : ℕ) → since (b x) ≡ true → c x ≡ b x) → IsSince since (seen_word b w) → seen_word c w ≡ seen_word b w
+seen_stays since b c w same known = by (eqb w 0) refl where
+  by : (t : Bool) → eqb w 0 ≡ t → seen_word c w ≡ seen_word b w
+  by true e = rw e refl
+  by false e = let is : seen_word b w ≡ b (w - 1) + 1 = rw e refl in rw e (ap (λ x. x + 1) (same (w - 1) (known (b (w - 1)) is)))
 
 -- what it knows of its stacks lasts, save by its own scans
 pub stacks_last : (z : Cycle) (a : ℕ) (s t : Shared) (stacks : List (List Value)) (notes : List ℕ) → Keeps z a s t → KnowsStacks z a s stacks notes → KnowsStacks z a t stacks notes
 stacks_last z a s t stacks notes k f = record {
   own = f.own;
-  registers = λ g own on. let was = f.registers g own (λ e. on (k.stacks g own ∙ e)) in record { whole = was.whole; each = λ d lt. k.registers g d own ∙ was.each d lt; some = was.some };
+  registers = λ g own on. let was = f.registers g own (λ e. on (k.stacks g own ∙ e)) in record {
+    whole = was.whole;
+    each = λ d lt. k.registers g d own ∙ was.each d lt ∙ sym (seen_stays s.since s.extents.base t.extents.base (stack_facts.named (slice_index_or (slice_index_or stacks g []) d Value.Nil)) k.bases (subst (λ (v : ℕ). IsSince s.since v) (was.each d lt) (f.since g own (λ e. on (k.stacks g own ∙ e)) d lt)));
+    some = was.some;
+  };
+  since = λ g own on d lt o is. k.since o (f.since g own (λ e. on (k.stacks g own ∙ e)) d lt o (sym (k.registers g d own) ∙ is));
   noted = λ g own. f.noted g own ∙ sym (k.stacks g own);
   places = f.places;
 }
@@ -67,7 +82,7 @@ pub record ShadesWish (z : Cycle) (a : ℕ) (s : Shared) (m : stack.StackScan) (
 -- it looks for room for the object that it has marked
 pub record LooksForRoom (s : Shared) (reference : ℕ) : Type 0 where
   pub some : 1 ≤ reference
-  pub marked : IsMarked (mark_words s.words) (shade.object_of reference)
+  pub marked : shade_facts.HasBoth s (shade.object_of reference)
 
 abbrev pub pending : (reference : ℕ) → InHand
 pending reference = record nothing { pending = Some (shade.object_of reference) }

@@ -6,7 +6,7 @@ pub use Rattle.gh_base.specs.declared.held.Held.{Held}
 pub use Rattle.gh_base.specs.declared.layout.Layout.{Layout}
 pub use Rattle.gh_base.specs.declared.value.Value.{Value}
 pub use Rattle.gh_heap.specs.Rights.{IsOf}
-pub use Rattle.gh_marks.specs.Colours.{Cycle, IsMarked, Shared}
+pub use Rattle.gh_marks.specs.Colours.{Cycle, Shared}
 pub use Rattle.gh_marks.specs.Good.{Good}
 pub use Rattle.gh_marks.specs.Knows.{KnowsObject, KnowsObjects}
 pub use Rattle.gh_marks.specs.Moves.{Keeps, Others, ScanStack, Steps, landing, moved}

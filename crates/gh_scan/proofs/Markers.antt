@@ -1,6 +1,6 @@
 -- While marking is on the steps of the scan are moves that its seat may make. Of the moves, of shading and of the search for room it is known what their laws say.
 use Rattle.std.proofs.Common.{◌≡◌, ◌≢◌, ℕ, ◌+◌, ◌-◌, ◌*◌, ◌/◌, ◌%◌, ◌<◌, ◌≤◌, Bool, true, false, cond, eqb, Option, Some, None, inl, inr, refl, sym, ap, subst, ◌∙◌, arith, eqb-true, eq-eqb}
-use Rattle.gh_scan.proofs.Vocabulary.{after_room, after_shade, asks_at, at_stage, behind, besides, bit, bit_at, bit_says_pointer, bitmap_words, BitsAre, Cell, cell_of, Cycle, Done, EachHandLasts, EachStepGoesByMoves, effect, Ended, Facts, FindRoom, given_at, goes, goes_at, Good, Hands, Held, in_hand, InHand, IsAt, IsAtPointerField, IsClean, IsMarked, IsPointer, Keeps, landing, landing_on, Lands, lands_still, Load, LoadBitmap, LoadField, LoadPage, mark_words, mod-eq_of_lt, object_of, Others, reference_in, RowsAreWritten, Scanning, ScansByMoves, ScanStage, Shaded, Shades, Shading, Shared, StageFacts, Steps, Taken, WantsRoom, Went, with_bits, with_found_field}
+use Rattle.gh_scan.proofs.Vocabulary.{after_room, after_shade, asks_at, at_stage, behind, besides, bit, bit_at, bit_says_pointer, bitmap_words, BitsAre, Cell, cell_of, Cycle, Done, EachHandLasts, EachStepGoesByMoves, effect, Ended, Facts, FindRoom, given_at, goes, goes_at, Good, Hands, Held, in_hand, InHand, IsAt, IsAtPointerField, IsClean, IsMarked, IsPointer, IsSince, Keeps, landing, landing_on, Lands, lands_still, Load, LoadBitmap, LoadField, LoadPage, mod-eq_of_lt, object_of, Others, reference_in, RowsAreWritten, Scanning, ScansByMoves, ScanStage, seen_field, seen_some, seen_word, Shaded, Shades, Shading, Shared, StageFacts, Steps, Taken, WantsRoom, Went, with_bits, with_found_field}
 use Rattle.gh_base.specs.declared.cell.Ask.{Ask}
 use Rattle.gh_marks.specs.Knows.{KnowsObject, KnowsObjects}
 use Rattle.gh_shade.specs.Facts as shade_facts
@@ -16,6 +16,13 @@ pub record Known : Type 0 where
   pub steps : EachStepGoesByMoves
   pub shade : shade_facts.ShadesByMoves
   pub room : room_facts.BuffersPassByMoves
+
+-- a reference that names an object of the cycle, and one that is marked
+since-word : (s : Shared) (r : ℕ) → 1 ≤ r → s.since (s.extents.base (shade.object_of r)) ≡ true → IsSince s.since (seen_word s.extents.base r)
+since-word s r some known o e = let is : o ≡ s.extents.base (shade.object_of r) = omega (arith, seen_some s.extents.base r some, e) in ap s.since is ∙ known
+
+since-marked : (s : Shared) (r : ℕ) → 1 ≤ r → shade_facts.HasBoth s (shade.object_of r) → IsSince s.since (seen_word s.extents.base r)
+since-marked s r some h = since-word s r some (ap s.since h.base ∙ h.known)
 
 module _ (k : Known) (z : Cycle) (a : ℕ) (s : Shared) (rest : InHand) (g : Good z s) (objects : KnowsObjects z s) (m : Scanning) (seat_is : m.seat ≡ a) (known : s.since (object_of m.reference) ≡ true) where
   abbrev o : ℕ
@@ -104,11 +111,11 @@ module _ (k : Known) (z : Cycle) (a : ℕ) (s : Shared) (rest : InHand) (g : Goo
       v : ℕ
       v = s.words (Cell.Field m.at)
 
-      is-v : s.words (Cell.Field (o + h.k)) ≡ v
-      is-v = ap (λ (i : ℕ). s.words (Cell.Field i)) (sym h.at_is)
+      is-v : seen_field s (o + h.k) ≡ seen_word s.extents.base v
+      is-v = ap (seen_field s) (sym h.at_is)
 
-      at-it : (j : ℕ) → o + j ≡ m.at → s.words (Cell.Field (o + j)) ≡ v
-      at-it j e = ap (λ (i : ℕ). s.words (Cell.Field i)) e
+      at-it : (j : ℕ) → o + j ≡ m.at → seen_field s (o + j) ≡ seen_word s.extents.base v
+      at-it j e = ap (seen_field s) e
 
       by : (b : Bool) → eqb v 0 ≡ b → Leads (Load (Cell.Field m.at)) (cond b (behind m) (at_stage m (Shading (shade.opening (reference_in z.arena.layout v) m.held))))
       by true e = passes (Cell.Field m.at) m (record {
@@ -116,32 +123,33 @@ module _ (k : Known) (z : Cycle) (a : ℕ) (s : Shared) (rest : InHand) (g : Goo
         known = known;
         is_at = is_at;
         bits_are = h.bits_are;
-        clean = λ j l at p q. absurd (nil p (s.words (Cell.Field (o + j))) (at-it j at) (eqb-true _ _ e) q);
+        clean = λ j l at p q. absurd (nil p (seen_field s (o + j)) (at-it j at) (eqb-true _ _ e) q);
         hands = x;
       }) where
-        nil : (p w : ℕ) → w ≡ v → v ≡ 0 → w ≡ p + 1 → ⊥
-        nil p w e f q = omega arith
+        nil : (p w : ℕ) → w ≡ seen_word s.extents.base v → v ≡ 0 → w ≡ p + 1 → ⊥
+        nil p w e f q = let none : seen_word s.extents.base v ≡ 0 = ap (seen_word s.extents.base) f in omega (arith, e, none, q)
       by false e =
           let some : v ≢ 0 = λ n. absurd (cc (e, eq-eqb _ _ n)) in
           let is : v ≡ (v - 1) + 1 = omega arith in
-          let since : s.since (v - 1) ≡ true = g.values.fields o h.k known h.pointer (v - 1) (is-v ∙ is) in
-          let there : KnowsObject z.arena.layout.pages (λ p. s.words (Cell.Page p)) (bitmap_words s.words) s.extents (v - 1) = objects (v - 1) since in
+          let since : s.since (s.extents.base (v - 1)) ≡ true = g.values.fields o h.k known h.pointer (s.extents.base (v - 1)) (is-v ∙ seen_some s.extents.base v (omega (arith, some))) in
+          let whole : v - 1 ≡ s.extents.base (v - 1) = (objects (s.extents.base (v - 1)) since).base_is (v - 1) refl in
+          let there : KnowsObject z.arena.layout.pages (λ p. s.words (Cell.Page p)) (bitmap_words s.words) s.extents (v - 1) = objects (v - 1) (ap s.since whole ∙ since) in
           let within : v - 1 < 1024 * z.arena.layout.pages = omega (arith, there.within, there.some) in
           let reference : reference_in z.arena.layout v ≡ v = ap (λ (n : ℕ). n + 1) (mod-eq_of_lt within) ∙ sym is in
           still (Cell.Field m.at) (at_stage m (Shading (shade.opening (reference_in z.arena.layout v) m.held))) (record {
             seat_is = seat_is;
             known = known;
             stage_is = (
-              record { is_at = is_at; is_field = h; stands = inl (sym reference) },
-              k.shade.begins z a s (besides rest o) (reference_in z.arena.layout v) m.held (omega arith) (ap (λ (n : ℕ). s.since (n - 1)) reference ∙ since) x,
+              record { is_at = is_at; is_field = h; stands = inl (ap (seen_word s.extents.base) (sym reference)) },
+              k.shade.begins z a s (besides rest o) (reference_in z.arena.layout v) m.held (omega arith) (ap (λ (n : ℕ). s.since (s.extents.base (n - 1))) reference ∙ since) x,
             );
           })
 
   -- the steps of shading
-  module _ (sh : shade.Shading) (sha : Shades s o m.slot m.at m.bits sh.reference) where
+  module _ (sh : shade.Shading) (of_cycle : IsSince s.since (seen_word s.extents.base sh.reference)) (sha : Shades s o m.slot m.at m.bits sh.reference) where
     -- what is known once they are made
     shades-then : (t : Shared) → Keeps z a s t → Shades t o m.slot m.at m.bits (shade.goes sh (s.words (cell_of (shade.asks sh)))).reference
-    shades-then t keeps = subst (λ (r : ℕ). Shades t o m.slot m.at m.bits r) (sym (k.shade.same sh (s.words (cell_of (shade.asks sh))))) (shades-kept k.marks z a s t o known keeps m.slot m.at m.bits sh.reference sha)
+    shades-then t keeps = subst (λ (r : ℕ). Shades t o m.slot m.at m.bits r) (sym (k.shade.same sh (s.words (cell_of (shade.asks sh))))) (shades-kept k.marks z a s t o known keeps m.slot m.at m.bits sh.reference of_cycle sha)
 
     module _ (t : Shared) (went : Went z a s t) (keeps : Keeps z a s t) where
       good-then : Good z t
@@ -169,12 +177,12 @@ module _ (k : Known) (z : Cycle) (a : ℕ) (s : Shared) (rest : InHand) (g : Goo
         some : 1 ≤ (shade.goes sh f).reference
         some = facts.some
 
-        clean : IsClean (mark_words t.words) (t.words (Cell.Field m.at))
+        clean : IsClean t.colour (seen_field t m.at)
         clean = elim at-then.stands [ inr c ↦ c | inl w ↦ named w ] where
-          named : t.words (Cell.Field m.at) ≡ (shade.goes sh f).reference → IsClean (mark_words t.words) (t.words (Cell.Field m.at))
+          named : seen_field t m.at ≡ seen_word t.extents.base (shade.goes sh f).reference → IsClean t.colour (seen_field t m.at)
           named w p q =
-              let same : shade.object_of (shade.goes sh f).reference ≡ p = omega (arith, some, w, q) in
-              subst (λ (x : ℕ). IsMarked (mark_words t.words) x) same shaded.marked
+              let same : t.extents.base (shade.object_of (shade.goes sh f).reference) ≡ p = omega (arith, seen_some t.extents.base (shade.goes sh f).reference some, w, q) in
+              subst (λ (x : ℕ). IsMarked t.colour x) (sym shaded.marked.base ∙ same) shaded.marked.colour
 
         d : IsDone k.marks z a t rest good-then n
         d = record {
@@ -182,7 +190,7 @@ module _ (k : Known) (z : Cycle) (a : ℕ) (s : Shared) (rest : InHand) (g : Goo
           known = known-then;
           is_at = at-then.is_at;
           bits_are = at-then.is_field.bits_are;
-          clean = λ j l at. subst (λ (x : ℕ). IsClean (mark_words t.words) (t.words (Cell.Field x))) (sym at) clean;
+          clean = λ j l at. subst (λ (x : ℕ). IsClean t.colour (seen_field t x)) (sym at) clean;
           hands = shaded.hands;
         }
       after f (Some WantsRoom) e is facts = landed (at_stage m (FindRoom (shade.goes sh f) (room.opening m.seat (shade.goes sh f).held))) (record { seat_is = seat_is; known = known-then; stage_is = (subst (λ (i : ℕ). Shades t o m.slot m.at m.bits (shade.goes sh i).reference) (sym is) (shades-then t keeps), waits.some, waits.marked, found) }) where
@@ -204,18 +212,18 @@ module _ (k : Known) (z : Cycle) (a : ℕ) (s : Shared) (rest : InHand) (g : Goo
         (k.shade.keeps.own_step z a s (besides rest o) sh g objects facts)
 
     -- the steps of the search for room
-    module _ (r : room.RoomFinding) (some : 1 ≤ sh.reference) (marked : IsMarked (mark_words s.words) (shade.object_of sh.reference)) where
+    module _ (r : room.RoomFinding) (some : 1 ≤ sh.reference) (marked : shade_facts.HasBoth s (shade.object_of sh.reference)) where
       abbrev with_pending : InHand
       with_pending = record rest { pending = Some (shade.object_of sh.reference); scanning = Some o }
 
       found-room : (t : Shared) (keeps : Keeps z a s t) (f : ℕ) (out : Option Held) → room.gives z.arena.layout r f ≡ out → room_facts.RoomFacts z a s with_pending r → room_facts.RoomFacts z a t with_pending (room.goes z.arena.layout r f) → Facts z a t rest (after_room m sh (room.goes z.arena.layout r f) out)
-      found-room t keeps f None e was facts = record { seat_is = seat_is; known = keeps.since o known; stage_is = (shades-kept k.marks z a s t o known keeps m.slot m.at m.bits sh.reference sha, some, keeps.marks (shade.object_of sh.reference) marked, facts) }
+      found-room t keeps f None e was facts = record { seat_is = seat_is; known = keeps.since o known; stage_is = (shades-kept k.marks z a s t o known keeps m.slot m.at m.bits sh.reference of_cycle sha, some, k.shade.shaded z a s t (shade.object_of sh.reference) keeps marked, facts) }
       found-room t keeps f (Some h) e was facts = record {
         seat_is = seat_is;
         known = keeps.since o known;
         stage_is = (
-          shades-kept k.marks z a s t o known keeps m.slot m.at m.bits sh.reference sha,
-          k.shade.told z a t (besides rest o) sh h some (keeps.marks (shade.object_of sh.reference) marked) (omega (arith, k.room.room z.arena.layout a f r h was.knows e))
+          shades-kept k.marks z a s t o known keeps m.slot m.at m.bits sh.reference of_cycle sha,
+          k.shade.told z a t (besides rest o) sh h some (k.shade.shaded z a s t (shade.object_of sh.reference) keeps marked) (omega (arith, k.room.room z.arena.layout a f r h was.knows e))
               (subst (λ (held : Option Held). Hands a t (room_facts.holding with_pending held)) (k.room.held z.arena.layout f r h e) facts.hands),
         );
       }
@@ -231,8 +239,8 @@ module _ (k : Known) (z : Cycle) (a : ℕ) (s : Shared) (rest : InHand) (g : Goo
   own-at LoadPage x = page x
   own-at LoadBitmap x = bitmap x.0 x.1
   own-at LoadField x = field x.0 x.2 x.1
-  own-at (Shading sh) x = shades sh x.0 x.1
-  own-at (FindRoom sh r) x = finds sh x.0 r x.1 x.2 x.3
+  own-at (Shading sh) x = shades sh (since-word s sh.reference x.1.some (k.shade.known z a s (besides rest o) sh x.1)) x.0 x.1
+  own-at (FindRoom sh r) x = finds sh (since-marked s sh.reference x.1 x.2) x.0 r x.1 x.2 x.3
   own-at (Ended words) x = still Cell.Touch (at_stage m (Ended words)) (record { seat_is = seat_is; known = known; stage_is = x })
 
 stage-lasts : (k : Known) (z : Cycle) (a : ℕ) (s t : Shared) (rest : InHand) (m : Scanning) (p : ScanStage) → Others z a s t → s.since (object_of m.reference) ≡ true → StageFacts z a s rest m p → StageFacts z a t rest m p
@@ -243,11 +251,11 @@ stage-lasts k z a s t rest m LoadField o known x = (
   field-kept k.marks z a s t (object_of m.reference) known o.keeps m.bits m.at x.1,
   k.last z a s t (in_hand rest m.held (Some (object_of m.reference))) o x.2,
 )
-stage-lasts k z a s t rest m (Shading sh) o known x = (shades-kept k.marks z a s t (object_of m.reference) known o.keeps m.slot m.at m.bits sh.reference x.0, k.shade.keeps.lasts z a s t (besides rest (object_of m.reference)) sh o x.1)
+stage-lasts k z a s t rest m (Shading sh) o known x = (shades-kept k.marks z a s t (object_of m.reference) known o.keeps m.slot m.at m.bits sh.reference (since-word s sh.reference x.1.some (k.shade.known z a s (besides rest (object_of m.reference)) sh x.1)) x.0, k.shade.keeps.lasts z a s t (besides rest (object_of m.reference)) sh o x.1)
 stage-lasts k z a s t rest m (FindRoom sh r) o known x = (
-  shades-kept k.marks z a s t (object_of m.reference) known o.keeps m.slot m.at m.bits sh.reference x.0,
+  shades-kept k.marks z a s t (object_of m.reference) known o.keeps m.slot m.at m.bits sh.reference (since-marked s sh.reference x.1 x.2) x.0,
   x.1,
-  o.keeps.marks (shade.object_of sh.reference) x.2,
+  k.shade.shaded z a s t (shade.object_of sh.reference) o.keeps x.2,
   k.room.finds.lasts z a s t (record rest { pending = Some (shade.object_of sh.reference); scanning = Some (object_of m.reference) }) r o x.3,
 )
 stage-lasts k z a s t rest m (Ended words) o known x = k.last z a s t (in_hand rest m.held None) o x

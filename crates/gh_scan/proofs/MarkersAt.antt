@@ -1,7 +1,7 @@
 -- Where the scan is while marking is on: what it knows of the words that it is done with lasts, and it goes on behind a word or ends with a black object.
-use Rattle.std.proofs.Common.{◌≡◌, ◌≢◌, ℕ, zero, suc, ◌+◌, ◌-◌, ◌*◌, ◌/◌, ◌%◌, ◌<◌, ◌≤◌, Bool, true, false, cond, eqb, ltb, Option, Some, None, refl, sym, ap, subst, ◌∙◌, arith, ◌||◌}
+use Rattle.std.proofs.Common.{◌≡◌, ◌≢◌, ℕ, zero, suc, ◌+◌, ◌-◌, ◌*◌, ◌/◌, ◌%◌, ◌<◌, ◌≤◌, Bool, true, false, cond, eqb, ltb, Option, Some, None, inl, inr, refl, sym, ap, subst, ◌∙◌, arith, ◌||◌}
 use Rattle.std.proofs.lemmas.Bool.{eqb-true, eq-eqb, ltb-true, ltb-false}
-use Rattle.gh_scan.proofs.Vocabulary.{at_next, at_stage, behind, bit_says_pointer, BitsAre, Blacken, Cell, CleanBefore, Cycle, EachFactLasts, EachHandFollows, EachOwnMoveLeaves, end, Ended, Facts, FactsLast, field_words, Good, Hands, in_hand, InHand, is_loaded, IsAt, IsAtPointerField, IsClean, IsPointer, Keeps, Lands, lands_by, lands_still, LoadBitmap, LoadField, loads_at, mark_words, next_from, next_in, object_of, SameExtent, Scanning, Shades, Shared, Taken, WhatIsKeptGoesOn}
+use Rattle.gh_scan.proofs.Vocabulary.{at_next, at_stage, behind, bit_says_pointer, BitsAre, Blacken, CleanBefore, Cycle, EachFactLasts, EachHandFollows, EachOwnMoveLeaves, end, Ended, Facts, FactsLast, field_words, FoundStillStands, Good, Hands, in_hand, InHand, is_loaded, IsAt, IsAtPointerField, IsClean, IsPointer, IsSince, Keeps, Lands, lands_by, lands_still, LoadBitmap, LoadField, loads_at, next_from, next_in, object_of, SameExtent, Scanning, seen_field, seen_row, seen_word, Shades, Shared, Taken, WhatIsKeptGoesOn}
 
 -- what the laws of gh_marks say, as far as it is of one seat's facts
 pub record KnownOfFacts : Type 0 where
@@ -73,8 +73,17 @@ module _ (k : KnownOfFacts) (z : Cycle) (a : ℕ) (s t : Shared) (o : ℕ) (know
     bits_are = λ j l e. h.bits_are j (omega (arith, l, extent.size)) e ∙ sym (ap (λ (f : ℕ → Bool). f j) extent.pointer);
   }
 
-  pub shades-kept : (slot at bits reference : ℕ) → Shades s o slot at bits reference → Shades t o slot at bits reference
-  shades-kept slot at bits reference h = record { is_at = grind arith; is_field = grind arith; stands = grind arith }
+  -- what it found there stands there still, or the word that came in its place is clean
+  stands-kept : (at bits reference : ℕ) → IsSince s.since (seen_word s.extents.base reference) → IsAtPointerField s o bits at → FoundStillStands s at reference → FoundStillStands t at reference
+  stands-kept at bits reference named h (inl e) = elim (keeps.fields o h.k known h.pointer) [
+    | inl w ↦ inl (ap (seen_field t) h.at_is ∙ w ∙ ap (seen_field s) (sym h.at_is) ∙ e ∙ sym (last.seen reference named))
+    | inr c ↦ inr (subst (λ (x : ℕ). IsClean t.colour (seen_field t x)) (sym h.at_is) c)
+  ]
+  stands-kept at bits reference named h (inr c) = inr (subst (λ (x : ℕ). IsClean t.colour (seen_field t x)) (sym h.at_is)
+      (last.field o h.k known h.pointer (subst (λ (x : ℕ). IsClean s.colour (seen_field s x)) h.at_is c)))
+
+  pub shades-kept : (slot at bits reference : ℕ) → IsSince s.since (seen_word s.extents.base reference) → Shades s o slot at bits reference → Shades t o slot at bits reference
+  shades-kept slot at bits reference named h = record { is_at = at-kept slot at h.is_at; is_field = field-kept bits at h.is_field; stands = stands-kept at bits reference named h.is_field h.stands }
 
 -- Behind the word that it is at: it goes on at the next word for which something is loaded, and with none left its object is black.
 module _ (k : KnownOfFacts) (z : Cycle) (a : ℕ) (t : Shared) (rest : InHand) (g : Good z t) (n : Scanning) where
@@ -87,7 +96,7 @@ module _ (k : KnownOfFacts) (z : Cycle) (a : ℕ) (t : Shared) (rest : InHand) (
     pub known : t.since o ≡ true
     pub is_at : IsAt t o n.slot n.at
     pub bits_are : BitsAre t.extents o n.bits n.at
-    pub clean : (j : ℕ) → IsPointer t.extents o j → o + j ≡ n.at → IsClean (mark_words t.words) (t.words (Cell.Field (o + j)))
+    pub clean : (j : ℕ) → IsPointer t.extents o j → o + j ≡ n.at → IsClean t.colour (seen_field t (o + j))
     pub hands : Hands a t (in_hand rest n.held (Some o))
 
   module _ (d : IsDone) where
@@ -98,7 +107,7 @@ module _ (k : KnownOfFacts) (z : Cycle) (a : ℕ) (t : Shared) (rest : InHand) (
     scanned = g.objects.grey o (rw taken tt)
 
     -- nothing is loaded for the words between
-    clean-to : (q : ℕ) → n.at < q → ((y : ℕ) → n.at + 1 ≤ y → y < q → is_loaded n.bits y ≡ false) → CleanBefore t.extents (mark_words t.words) (field_words t.words) o q
+    clean-to : (q : ℕ) → n.at < q → ((y : ℕ) → n.at + 1 ≤ y → y < q → is_loaded n.bits y ≡ false) → CleanBefore t.extents t.colour (seen_row t.extents.base (field_words t.words)) o q
     clean-to q lt none j l below = by (ltb (o + j) n.at) (eqb (o + j) n.at) refl refl where
       later : n.at < o + j → ⊥
       later more =
@@ -108,7 +117,7 @@ module _ (k : KnownOfFacts) (z : Cycle) (a : ℕ) (t : Shared) (rest : InHand) (
           let not : bit_says_pointer n.bits (o + j) ≡ false = no-pointer n.bits (o + j) off in
           cc
 
-      by : (b c : Bool) → ltb (o + j) n.at ≡ b → eqb (o + j) n.at ≡ c → IsClean (mark_words t.words) (t.words (Cell.Field (o + j)))
+      by : (b c : Bool) → ltb (o + j) n.at ≡ b → eqb (o + j) n.at ≡ c → IsClean t.colour (seen_field t (o + j))
       by true c e f = d.is_at.clean j l (ltb-true _ _ e)
       by false true e f = d.clean j l (eqb-true _ _ f)
       by false false e f =
@@ -124,8 +133,8 @@ module _ (k : KnownOfFacts) (z : Cycle) (a : ℕ) (t : Shared) (rest : InHand) (
 
     blackens : Skips n.bits (n.at + 1) (end n) None → Goal (at_stage n (Ended n.slot))
     blackens none =
-        let all : CleanBefore t.extents (mark_words t.words) (field_words t.words) o (end n) = clean-to (end n) (omega (arith, stop)) (λ y le lt. none y le lt) in
-        let may : (t.colour o ≡ Taken a) × ((j : ℕ) → IsPointer t.extents o j → IsClean (mark_words t.words) (t.words (Cell.Field (o + j)))) = (taken, λ j l. all j l (omega (arith, l.0, d.is_at.slot_is))) in
+        let all : CleanBefore t.extents t.colour (seen_row t.extents.base (field_words t.words)) o (end n) = clean-to (end n) (omega (arith, stop)) (λ y le lt. none y le lt) in
+        let may : (t.colour o ≡ Taken a) × ((j : ℕ) → IsPointer t.extents o j → IsClean t.colour (seen_field t (o + j))) = (taken, λ j l. all j l (omega (arith, l.0, d.is_at.slot_is))) in
         lands_by z a t t.words (λ u. Keeps z a t u × Facts z a u rest (at_stage n (Ended n.slot))) (Blacken o) may refl
         (k.leave z a t (Blacken o) g may tt, record { seat_is = d.seat_is; known = d.known; stage_is = (k.follow z a t (in_hand rest n.held (Some o)) g d.hands).blackened o refl })
 

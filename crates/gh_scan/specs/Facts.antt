@@ -1,7 +1,7 @@
 -- What is known at each stage of the scan of an object while marking is on. The seat has taken the object, so nobody else scans it. The pointer fields before the word that the scan is at are clean, and a store by whomever leaves them so; so behind the last word the object is black.
 use Rattle.std.specs.Prelude.{◌≡◌, ℕ, ◌+◌, ◌/◌, ◌<◌, ◌≤◌, ◌⊎◌, true, Option, Some, None}
-use Rattle.gh_scan.specs.Vocabulary.{Cell, Ended, field_words, FindRoom, Held, LoadBitmap, LoadField, LoadPage, mark_words, Row, ScanStage, Shading}
-use Rattle.gh_marks.specs.Colours.{Cycle, Extents, IsClean, IsMarked, IsPointer, Shared}
+use Rattle.gh_scan.specs.Vocabulary.{Ended, field_words, FindRoom, Held, LoadBitmap, LoadField, LoadPage, Row, ScanStage, Shading}
+use Rattle.gh_marks.specs.Colours.{Colour, Cycle, Extents, IsClean, IsPointer, seen_field, seen_row, seen_word, Shared}
 use Rattle.gh_marks.specs.Routines.{KeepsItsFacts}
 use Rattle.gh_marks.specs.Seats.{Hands, InHand}
 use Rattle.gh_scan.specs.Listing.{bit_says_pointer, gives, goes, listing, object_of, opening, Scanning}
@@ -10,15 +10,15 @@ use Rattle.gh_shade.specs.Listing as shade
 use Rattle.gh_wbuf.specs.Facts as room_facts
 
 -- the pointer fields of the object before heap word x are clean
-abbrev pub CleanBefore : Extents → (mark field : Row) → (o x : ℕ) → Type 0
-CleanBefore e mark field o x = (k : ℕ) → IsPointer e o k → o + k < x → IsClean mark (field (o + k))
+abbrev pub CleanBefore : Extents → (ℕ → Colour) → (field : Row) → (o x : ℕ) → Type 0
+CleanBefore e colour field o x = (k : ℕ) → IsPointer e o k → o + k < x → IsClean colour (field (o + k))
 
 -- Where it is: at a word of the slot, and done with those before. It knows how many words the slot has.
 pub record IsAt (s : Shared) (o slot at : ℕ) : Type 0 where
   pub slot_is : slot ≡ s.extents.size o
   pub from : o ≤ at
   pub below : at < o + s.extents.size o
-  pub clean : CleanBefore s.extents (mark_words s.words) (field_words s.words) o at
+  pub clean : CleanBefore s.extents s.colour (seen_row s.extents.base (field_words s.words)) o at
 
 -- its bitmap word says which words of the object are pointer fields, as far as it is the word that has their bits
 abbrev pub BitsAre : Extents → (o bits at : ℕ) → Type 0
@@ -33,7 +33,7 @@ pub record IsAtPointerField (s : Shared) (o bits at : ℕ) : Type 0 where
 
 -- what it found there stands there still, or the word that came in its place is clean
 abbrev pub FoundStillStands : Shared → (at reference : ℕ) → Type 0
-FoundStillStands s at reference = (s.words (Cell.Field at) ≡ reference) ⊎ IsClean (mark_words s.words) (s.words (Cell.Field at))
+FoundStillStands s at reference = (seen_field s at ≡ seen_word s.extents.base reference) ⊎ IsClean s.colour (seen_field s at)
 
 -- what the seat has in hand
 abbrev pub in_hand : InHand → Option Held → (scanning : Option ℕ) → InHand
@@ -55,7 +55,7 @@ StageFacts z a s rest m LoadBitmap = IsAt s (object_of m.reference) m.slot m.at 
 StageFacts z a s rest m LoadField = IsAt s (object_of m.reference) m.slot m.at × IsAtPointerField s (object_of m.reference) m.bits m.at × Hands a s (in_hand rest m.held (Some (object_of m.reference)))
 StageFacts z a s rest m (Shading sh) = Shades s (object_of m.reference) m.slot m.at m.bits sh.reference × shade_facts.Facts z a s (besides rest (object_of m.reference)) sh
 StageFacts z a s rest m (FindRoom sh r) =
-    Shades s (object_of m.reference) m.slot m.at m.bits sh.reference × (1 ≤ sh.reference) × IsMarked (mark_words s.words) (shade.object_of sh.reference)
+    Shades s (object_of m.reference) m.slot m.at m.bits sh.reference × (1 ≤ sh.reference) × shade_facts.HasBoth s (shade.object_of sh.reference)
     × room_facts.RoomFacts z a s (record rest { pending = Some (shade.object_of sh.reference); scanning = Some (object_of m.reference) }) r
 StageFacts z a s rest m (Ended words) = Hands a s (in_hand rest m.held None)
 

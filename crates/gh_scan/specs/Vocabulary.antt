@@ -2,7 +2,7 @@
 pub use Rattle.gh_base.specs.Cells.{put, seats_of, Words}
 pub use Rattle.gh_base.specs.Machines.{Listing, Runs, steps_of}
 pub use Rattle.gh_base.specs.Packing.{page_of, slot_in}
-pub use Rattle.gh_base.specs.Rows.{bitmap_words, field_words, mark_words, pointer_bit, Row}
+pub use Rattle.gh_base.specs.Rows.{bitmap_words, field_words, pointer_bit, Row}
 pub use Rattle.gh_base.specs.declared.cell.Ask.TheVariants.{Load}
 pub use Rattle.gh_base.specs.declared.cell.Cell.{Cell}
 pub use Rattle.gh_base.specs.declared.cell.Cell.TheVariants.{Bitmap, Field, Page, Touch}

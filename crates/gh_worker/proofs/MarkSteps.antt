@@ -6,13 +6,14 @@ use Rattle.gh_credit.specs.Earning as earn
 use Rattle.gh_phase.specs.Listing as resume
 use Rattle.gh_scan.specs.Facts as scan_facts
 use Rattle.gh_scan.specs.Listing as scan
-use Rattle.gh_shade.specs.Facts as shade_facts
 use Rattle.gh_shade.specs.Listing as shade
 use Rattle.gh_wbuf.specs.BufferGiving as give
 use Rattle.gh_wbuf.specs.EntryTaking as take
 use Rattle.gh_wbuf.specs.Facts as buffer_facts
 use Rattle.gh_sweep.specs.Listing as sweep
-use Rattle.gh_worker.proofs.MarkShades.{finds, Known, shades}
+use Rattle.gh_worker.proofs.MarkShades.{finds, Known, seen-lasts, shades}
+use Rattle.gh_marks.specs.Colours.{seen_word}
+use Rattle.gh_marks.specs.Moves.{seen_some}
 use Rattle.gh_base.specs.declared.pack.PageWord.TheVariants.{Body, Free, Head}
 use Rattle.gh_scan.specs.Listing.{reference_in}
 use Rattle.gh_scan.specs.declared.scan.ScanStage.{ScanStage}
@@ -160,32 +161,33 @@ module _ (k : Known) (z : Cycle) (a : ℕ) (s : Shared) (g : Good z s) (objects 
   read i = moved z a s (ReadGlobal i)
 
   read-global : (i : ℕ) → Hands a s (in_hand w.held (ClaimOf i)) → Leads (Load (Cell.Global i)) (after_global l w (s.words (Cell.Global i)))
-  read-global i x = landing_on z a s s.words (λ t. Hands a t (in_hand w.held (ReadOf i v)) × (t ≡ moved z a s (ReadGlobal i))) (λ t. Facts z a t (after_global l w v))
+  read-global i x = landing_on z a s s.words (λ t. Hands a t (in_hand w.held (ReadOf i (seen_word s.extents.base v))) × (t ≡ moved z a s (ReadGlobal i))) (λ t. Facts z a t (after_global l w v))
       (λ t went h. subst (λ (u : Shared). Lands z a u u.words (λ t. Facts z a t (after_global l w v))) (sym h.1) (then (k.steps z a s (moved z a s (ReadGlobal i)) g (subst (Went z a s) h.1 went)).good))
-      (lands_by z a s s.words (λ t. Hands a t (in_hand w.held (ReadOf i v)) × (t ≡ moved z a s (ReadGlobal i))) (ReadGlobal i) ((x.has.is_claimed i).0 refl) refl (reads, refl)) where
+      (lands_by z a s s.words (λ t. Hands a t (in_hand w.held (ReadOf i (seen_word s.extents.base v))) × (t ≡ moved z a s (ReadGlobal i))) (ReadGlobal i) ((x.has.is_claimed i).0 refl) refl (reads, refl)) where
         v : ℕ
         v = s.words (Cell.Global i)
 
-        reads : Hands a (read i) (in_hand w.held (ReadOf i v))
+        reads : Hands a (read i) (in_hand w.held (ReadOf i (seen_word s.extents.base v)))
         reads = (k.follow z a s (in_hand w.held (ClaimOf i)) g x).read i refl
 
         then : Good z (read i) → Lands z a (read i) (read i).words (λ u. Facts z a u (after_global l w v))
         then good = by (eqb v 0) refl where
           by : (b : Bool) → eqb v 0 ≡ b → Lands z a (read i) (read i).words (λ u. Facts z a u (cond b (done_with w w.held 1) (at_stage w (WorkerStage.Shading (shade.opening (reference_in l v) w.held)))))
-          by true e = lands_by z a (read i) (read i).words (λ u. Facts z a u (done_with w w.held 1)) (ScanGlobal i v) ((reads.has.is_read i v).0 refl, λ o p. absurd (nil o (eqb-true _ _ e) p)) refl
-              (done (moved z a (read i) (ScanGlobal i v)) w.held 1 ((k.follow z a (read i) (in_hand w.held (ReadOf i v)) good reads).scanned i v refl)) where
-                nil : (o : ℕ) → v ≡ 0 → v ≡ o + 1 → ⊥
-                nil o e p = omega arith
+          by true e = lands_by z a (read i) (read i).words (λ u. Facts z a u (done_with w w.held 1)) (ScanGlobal i (seen_word s.extents.base v)) ((reads.has.is_read i (seen_word s.extents.base v)).0 refl, λ o p. absurd (nil o (eqb-true _ _ e) p)) refl
+              (done (moved z a (read i) (ScanGlobal i (seen_word s.extents.base v))) w.held 1 ((k.follow z a (read i) (in_hand w.held (ReadOf i (seen_word s.extents.base v))) good reads).scanned i (seen_word s.extents.base v) refl)) where
+                nil : (o : ℕ) → v ≡ 0 → seen_word s.extents.base v ≡ o + 1 → ⊥
+                nil o e p = let none : seen_word s.extents.base v ≡ 0 = ap (seen_word s.extents.base) e in omega (arith, none, p)
           by false e =
               let some : v ≢ 0 = λ n. absurd (cc (e, eq-eqb _ _ n)) in
               let is : v ≡ (v - 1) + 1 = omega arith in
-              let known : s.since (v - 1) ≡ true = g.values.globals i (v - 1) is in
-              let there : KnowsObject z.arena.layout.pages _ _ s.extents (v - 1) = objects (v - 1) known in
+              let known : s.since (s.extents.base (v - 1)) ≡ true = g.values.globals i (s.extents.base (v - 1)) (seen_some s.extents.base v (omega (arith, some))) in
+              let whole : v - 1 ≡ s.extents.base (v - 1) = (objects (s.extents.base (v - 1)) known).base_is (v - 1) refl in
+              let there : KnowsObject z.arena.layout.pages _ _ s.extents (v - 1) = objects (v - 1) (ap s.since whole ∙ known) in
               let within : v - 1 < 1024 * z.arena.layout.pages = omega (arith, there.within, there.some) in
               let reference : reference_in l v ≡ v = ap (λ (n : ℕ). n + 1) (mod-eq_of_lt within) ∙ sym is in
-              let hands : Hands a (read i) (shade_facts.in_hand (in_hand None (ReadOf i (reference_in l v))) w.held None) = subst (λ (n : ℕ). Hands a (read i) (in_hand w.held (ReadOf i n))) (sym reference) reads in
+              let value : seen_word s.extents.base v ≡ seen_word s.extents.base (reference_in l v) = ap (seen_word s.extents.base) (sym reference) in
               lands_still z a (read i) (read i).words (λ u. Facts z a u (at_stage w (WorkerStage.Shading (shade.opening (reference_in l v) w.held)))) refl
-              (same (read i) w.held w.marks (WorkerStage.Shading (shade.opening (reference_in l v) w.held)) (i, k.shade.begins z a (read i) (in_hand None (ReadOf i (reference_in l v))) (reference_in l v) w.held (omega arith) (ap (λ (n : ℕ). s.since (n - 1)) reference ∙ known) hands))
+              (same (read i) w.held w.marks (WorkerStage.Shading (shade.opening (reference_in l v) w.held)) (i, seen_word s.extents.base v, value, k.shade.begins z a (read i) (in_hand None (ReadOf i (seen_word s.extents.base v))) (reference_in l v) w.held (omega arith) (ap (λ (n : ℕ). s.since (s.extents.base (n - 1))) reference ∙ known) reads))
 
   leaves : Hands a s (in_hand w.held NoClaim) → Steps z a s (asks_at l w WorkerStage.Leave) (λ t. Facts z a t (goes_at l w WorkerStage.Leave (s.words (cell_of (asks_at l w WorkerStage.Leave)))))
   leaves x = lands_by z a s (effect s.words (asks_at l w WorkerStage.Leave)) (λ t. Facts z a t (at_stage w WorkerStage.Done)) (Quiet (asks_at l w WorkerStage.Leave)) tt refl
@@ -206,7 +208,7 @@ module _ (k : Known) (z : Cycle) (a : ℕ) (s : Shared) (g : Good z s) (objects 
   own-at WorkerStage.LoadCursor e x = load-cursor x
   own-at WorkerStage.Claim e x = claims x.0 x.1
   own-at (WorkerStage.LoadGlobal i) e x = read-global i x.1
-  own-at (WorkerStage.Shading sh) e x = shades k z a s g objects w seat_is seat_in sh x.0 x.1
+  own-at (WorkerStage.Shading sh) e x = shades k z a s g objects w seat_is seat_in sh x.0 x.1 x.2 x.3
   own-at (WorkerStage.FindRoom sh r) e x = finds k z a s g objects w seat_is seat_in sh r x.0 x.1 x.2
   own-at WorkerStage.Leave e x = leaves x
   own-at WorkerStage.Done e x = still Cell.Touch (at_stage w WorkerStage.Done) (record { seat_is = seat_is; seat_in = seat_in; stage_is = x })
@@ -218,8 +220,8 @@ stage-lasts k z a s t held (WorkerStage.Taking m) o x = k.buffers.takes.lasts z 
 stage-lasts k z a s t held (WorkerStage.Scanning m) o x = k.scan.keeps.lasts z a s t nothing m o x
 stage-lasts k z a s t held WorkerStage.Claim o x = (o.passes ∙ x.0, k.last z a s t (in_hand held NoClaim) o x.1)
 stage-lasts k z a s t held (WorkerStage.LoadGlobal i) o x = (x.0, k.last z a s t (in_hand held (ClaimOf i)) o x.1)
-stage-lasts k z a s t held (WorkerStage.Shading sh) o x = (x.0, k.shade.keeps.lasts z a s t (in_hand None (claim_at x.0 sh.reference sh.stage)) sh o x.1)
-stage-lasts k z a s t held (WorkerStage.FindRoom sh r) o x = (x.0, o.keeps.marks (shade.object_of sh.reference) x.1, k.buffers.finds.lasts z a s t (record nothing { pending = Some (shade.object_of sh.reference) }) r o x.2)
+stage-lasts k z a s t held (WorkerStage.Shading sh) o x = (x.0, x.1, seen-lasts k z a s t sh (in_hand None (claim_at x.0 x.1 sh.stage)) x.1 o.keeps x.3 x.2, k.shade.keeps.lasts z a s t (in_hand None (claim_at x.0 x.1 sh.stage)) sh o x.3)
+stage-lasts k z a s t held (WorkerStage.FindRoom sh r) o x = (x.0, k.shade.shaded z a s t (shade.object_of sh.reference) o.keeps x.1, k.buffers.finds.lasts z a s t (record nothing { pending = Some (shade.object_of sh.reference) }) r o x.2)
 stage-lasts k z a s t held _ o x = k.last z a s t (in_hand held NoClaim) o x
 
 module _ (z : Cycle) (a : ℕ) (s : Shared) (held : Option Held) where
@@ -233,7 +235,7 @@ module _ (z : Cycle) (a : ℕ) (s : Shared) (held : Option Held) where
   hand-at (WorkerStage.Scanning m) x = hand-scanned m m.stage x.stage_is
   hand-at WorkerStage.Claim x = record { hand = _; has = x.1; held_is = refl }
   hand-at (WorkerStage.LoadGlobal i) x = record { hand = _; has = x.1; held_is = refl }
-  hand-at (WorkerStage.Shading sh) x = record { hand = _; has = x.1.hands; held_is = refl }
+  hand-at (WorkerStage.Shading sh) x = record { hand = _; has = x.3.hands; held_is = refl }
   hand-at (WorkerStage.FindRoom sh r) x = record { hand = _; has = x.2.hands; held_is = refl }
   hand-at _ x = record { hand = _; has = x; held_is = refl }
 

@@ -1,7 +1,7 @@
 -- What is known of a worker at each stage while marking is on, and what each step of its own is then. At each stage it has in hand what the stage says and nothing else, so at a stop, with its buffer given back, it has nothing.
 use Rattle.std.specs.Prelude.{◌≡◌, ℕ, ◌<◌, ◌≤◌, false, Option, Some, None}
-use Rattle.gh_worker.specs.Vocabulary.{cell_of, ClaimOf, Cycle, Hands, Held, InHand, IsMarked, NoClaim, nothing, ReadOf, seats_of, Shared, WorkerStage}
-use Rattle.gh_base.specs.Rows.{mark_words}
+use Rattle.gh_worker.specs.Vocabulary.{cell_of, ClaimOf, Cycle, Hands, Held, InHand, NoClaim, nothing, ReadOf, seats_of, Shared, WorkerStage}
+use Rattle.gh_marks.specs.Colours.{seen_word}
 use Rattle.gh_marks.specs.Good.{Good}
 use Rattle.gh_marks.specs.Knows.{KnowsObjects}
 use Rattle.gh_marks.specs.Moves.{Others, Steps}
@@ -17,13 +17,13 @@ use Rattle.gh_worker.specs.Listing.{Working, asks, goes, held_at, opening, sweep
 abbrev pub in_hand : Option Held → Claim → InHand
 in_hand held claim = record nothing { held = held; claim = claim }
 
--- a global is the worker's until its value is marked
-abbrev pub claim_at : (i reference : ℕ) → ShadeStage → Claim
-claim_at i reference ShadeStage.LoadPage = ReadOf i reference
-claim_at i reference (ShadeStage.SetMark noscan) = ReadOf i reference
-claim_at i reference ShadeStage.WaitForRoom = NoClaim
-claim_at i reference ShadeStage.Enter = NoClaim
-claim_at i reference ShadeStage.Ended = NoClaim
+-- a global is the worker's until what is seen of its value is marked
+abbrev pub claim_at : (i value : ℕ) → ShadeStage → Claim
+claim_at i value ShadeStage.LoadPage = ReadOf i value
+claim_at i value (ShadeStage.SetMark noscan) = ReadOf i value
+claim_at i value ShadeStage.WaitForRoom = NoClaim
+claim_at i value ShadeStage.Enter = NoClaim
+claim_at i value ShadeStage.Ended = NoClaim
 
 -- what is known at each stage: at most of them no more than what it has in hand
 abbrev pub StageFacts : Cycle → (a : ℕ) → Shared → Option Held → WorkerStage → Type 0
@@ -33,8 +33,8 @@ StageFacts z a s held (WorkerStage.Taking t) = buffer_facts.TakeFacts z a s noth
 StageFacts z a s held (WorkerStage.Scanning m) = scan_facts.Facts z a s nothing m
 StageFacts z a s held WorkerStage.Claim = (s.passed a ≡ false) × Hands a s (in_hand held NoClaim)
 StageFacts z a s held (WorkerStage.LoadGlobal i) = (i < z.arena.layout.globals) × Hands a s (in_hand held (ClaimOf i))
-StageFacts z a s held (WorkerStage.Shading sh) = (i : ℕ) × shade_facts.Facts z a s (in_hand None (claim_at i sh.reference sh.stage)) sh
-StageFacts z a s held (WorkerStage.FindRoom sh r) = (1 ≤ sh.reference) × IsMarked (mark_words s.words) (shade.object_of sh.reference) × buffer_facts.RoomFacts z a s (record nothing { pending = Some (shade.object_of sh.reference) }) r
+StageFacts z a s held (WorkerStage.Shading sh) = (i : ℕ) × (value : ℕ) × (value ≡ seen_word s.extents.base sh.reference) × shade_facts.Facts z a s (in_hand None (claim_at i value sh.stage)) sh
+StageFacts z a s held (WorkerStage.FindRoom sh r) = (1 ≤ sh.reference) × shade_facts.HasBoth s (shade.object_of sh.reference) × buffer_facts.RoomFacts z a s (record nothing { pending = Some (shade.object_of sh.reference) }) r
 StageFacts z a s held _ = Hands a s (in_hand held NoClaim)
 
 pub record Facts (z : Cycle) (a : ℕ) (s : Shared) (w : Working) : Type 0 where

@@ -3,7 +3,7 @@ use Rattle.std.proofs.Common.{◌≡◌, ◌≢◌, ℕ, ◌<◌, suc, Bool, tru
 use Rattle.gh_cycle.proofs.Vocabulary.{alloc_words, birth_words, Cell, ClaimsSlot, Cycle, END, eqb_tells, Ever, Good, Heap, IsBeside, IsMade, IsOfCycle, KnownOfMoves, Marking, MarkingAloneGoesBeside, MarkingGood, MarksAlone, Name, Place, Placed, Placing, Reach, reference_of, RegistersFit, Row, row_bit, view, Words}
 use Rattle.gh_heap.specs.Moves as heap
 use Rattle.gh_marks.specs.Laws.{StepsGoByMoves}
-use Rattle.gh_cycle.proofs.Going.Lasting.{beside-lasts}
+use Rattle.gh_cycle.proofs.Going.Lasting.{bases-stay, beside-lasts}
 use Rattle.gh_cycle.proofs.Going.Leaving.{leaves, LeavesObjects, stood}
 use Rattle.gh_cycle.proofs.Going.Objects.{here}
 use Rattle.gh_cycle.proofs.Going.Plain.{fills-still, there}
@@ -71,6 +71,7 @@ module _ (k : KnownOfMoves) (z : Cycle) (a : ℕ) (h : Heap) (s t : Marking) (m 
     reach = λ n r. subst (λ (e : Ever). Reach e n) ever r;
     since = (step.others (suc a) (λ e. omega (arith, e))).keeps.since;
     of_cycle = of-cycle;
+    bases = bases-stay z a s t alone.went;
     extents = (step.others (suc a) (λ e. omega (arith, e))).keeps.extents;
     filling = filling;
     registers = fit;

@@ -7,6 +7,7 @@ pub cycles-begin : TheHeapIsApart → TheReachedWereMade → CyclesBeginBeside
 cycles-begin apart made z h s g b rest c are none = record {
   words = c.words;
   reached = λ n r. (c.since (h.place n)).1 (n, r, refl);
+  base = c.base;
   size = λ n o. c.size n (reach n o);
   pointer = λ n k o l. c.pointer n k (reach n o) l;
   noscan = λ n o. c.noscan n (reach n o);

@@ -1,10 +1,11 @@
 -- Where a register takes its value from the heap that never frees, marking sees its word come from the same place; and so a script reaches the value.
 use Rattle.std.proofs.Common.{◌≡◌, ℕ, ◌+◌, ◌<◌, Bool, true, false, Some, refl, sym, subst, ◌∙◌, arith}
-use Rattle.gh_cycle.proofs.Vocabulary.{Arena, Cell, Cycle, Ever, EverValue, from_nil, from_number, GoroutineRuns, Heap, Holds, IsMade, IsOfCycle, IsPointer, IsReached, Marking, Name, names, Place, points, Reach, reference_of, REGISTERS, shape_for, size_for, TakesFrom, TheReachedWereMade, view}
+use Rattle.gh_cycle.proofs.Vocabulary.{Arena, Cell, Cycle, Ever, EverValue, from_nil, from_number, GoroutineRuns, Heap, Holds, IsMade, IsOfCycle, IsPointer, IsReached, Marking, Name, names, Place, points, Reach, reference_of, REGISTERS, seen_field, seen_global, shape_for, size_for, TakesFrom, TheReachedWereMade, view}
 use Rattle.gh_model.specs.Ever as path
 use Rattle.gh_marks.specs.Moves as marks
 use Rattle.gh_cycle.specs.Deeds.{from_field, from_global, from_register}
 use Rattle.gh_cycle.proofs.Beginning.{reference-told}
+use Rattle.gh_marks.specs.Moves.{seen_is}
 use Rattle.gh_cycle.proofs.Going.Objects.{here}
 use Rattle.gh_cycle.proofs.Going.Plain.{Together}
 
@@ -45,7 +46,7 @@ module _ (made : TheReachedWereMade) (z : Cycle) (a : ℕ) (h : Heap) (s : Marki
     of = record { made = known; placed = w.heap.reached n reach; since = w.beside.reached n reach }
 
     by : (p : Bool) → points z.arena.shapes h.ever.type_of n k ≡ p → Holds h.place h.ever.made p (h.ever.field n k) (s.words (Cell.Field (h.place n + k))) → Comes (h.ever.field n k)
-    by true kind holds = by-word (s.words (Cell.Field (h.place n + k))) (h.ever.field n k) (word-of h.place h.ever.made (h.ever.field n k) (s.words (Cell.Field (h.place n + k))) holds)
+    by true kind holds = by-word (seen_field s (h.place n + k)) (h.ever.field n k) (seen_is s.extents.base w.beside.base (s.words (Cell.Field (h.place n + k))) ∙ word-of h.place h.ever.made (h.ever.field n k) (s.words (Cell.Field (h.place n + k))) holds)
         (marks.from_field r (h.place n) k low (register-is r low ∙ reference-told h.place (h.ever.register g r) n named) pointer) where
           pointer : IsPointer s.extents (h.place n) k
           pointer = (subst (λ (i : ℕ). k < i) (sym (w.beside.size n of)) few, w.beside.pointer n k of few ∙ kind, w.beside.noscan n of ∙ scans kind)
@@ -56,4 +57,4 @@ module _ (made : TheReachedWereMade) (z : Cycle) (a : ℕ) (h : Heap) (s : Marki
   comes value (from_number i) = marks.from_nothing
   comes value (from_register r low) = by-word (s.registers g r) (h.ever.register g r) (register-is r low) (marks.from_register r low)
   comes value (from_field r n k low named few scans) = field-comes r n k low named few scans
-  comes value (from_global k low) = by-word (s.words (Cell.Global k)) (h.ever.global k) (word-of h.place h.ever.made (h.ever.global k) (s.words (Cell.Global k)) (w.heap.globals k low)) (marks.from_global k low)
+  comes value (from_global k low) = by-word (seen_global s k) (h.ever.global k) (seen_is s.extents.base w.beside.base (s.words (Cell.Global k)) ∙ word-of h.place h.ever.made (h.ever.global k) (s.words (Cell.Global k)) (w.heap.globals k low)) (marks.from_global k low)

@@ -42,6 +42,7 @@ module _ (z : Arena) (h k : Heap) (t : Marking) (good : Good z (view h)) (well :
     reach = λ n r. subst (λ (e : Ever). Reach e n) ever r;
     since = λ o is. is;
     of_cycle = same-object;
+    bases = refl;
     extents = λ o is. record { size = refl; pointer = refl; noscan = refl };
     filling = λ o a is. same-claim o a (c.filling o a is);
     registers = λ g d lg ld runs. c.registers g d lg ld (sym (ap (λ (e : Ever). e.ended g) ever) ∙ runs) ∙ ap (λ (e : Ever). reference_of h.place (e.register g d)) (sym ever) ∙ ap (λ (f : Place). reference_of f (k.ever.register g d)) (sym place);

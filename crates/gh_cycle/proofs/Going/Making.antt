@@ -46,7 +46,7 @@ module _ (k : KnownOfMoves) (z : Cycle) (a : ℕ) (h : Heap) (s : Marking) (w : 
   ]
 
   may-place : marks.May z a s place
-  may-place = grind (arith, within)
+  may-place = grind (arith, within, w.beside.base at)
 
   went : marks.Went z a s then
   went = marks.goes s place marks.stays may-place
@@ -183,7 +183,7 @@ module _ (k : KnownOfMoves) (z : Cycle) (a : ℕ) (h : Heap) (s : Marking) (w : 
   makes = record {
     then = then;
     went = went;
-    beside = record { words = refl; reached = reached; size = size; pointer = pointer; noscan = noscan; filling = filling; registers = fit; goes_on = w.beside.goes_on };
+    beside = record { words = refl; reached = reached; base = w.beside.base; size = size; pointer = pointer; noscan = noscan; filling = filling; registers = fit; goes_on = w.beside.goes_on };
     hands = hands;
     marked = λ o is. is;
   }

@@ -1,6 +1,6 @@
 -- A move over the heap that makes no object leaves the two states together, if marking goes along with it; and so it does by a quiet step.
 use Rattle.std.proofs.Common.{◌≡◌, ◌≢◌, ℕ, ◌<◌, false, refl, sym, ap, subst, ◌∙◌, inl, inr, None}
-use Rattle.gh_cycle.proofs.Vocabulary.{alloc_words, Ask, birth_words, Cell, ClaimsSlot, Cycle, effect, END, eqb_tells, Good, Hands, Heap, InHand, IsBeside, IsBounded, IsMade, IsMarked, KnownOfMoves, mark_words, Marking, MarkingGood, Name, name_made, Placed, Placing, Reach, reference_of, RegistersFit, Row, view}
+use Rattle.gh_cycle.proofs.Vocabulary.{alloc_words, Ask, birth_words, Cell, ClaimsSlot, Cycle, effect, END, eqb_tells, Good, Hands, Heap, InHand, IsBeside, IsBounded, IsMade, HasMark, KnownOfMoves, mark_words, Marking, MarkingGood, Name, name_made, Placed, Placing, Reach, reference_of, RegistersFit, Row, view}
 use Rattle.gh_heap.specs.Moves as heap
 use Rattle.gh_marks.specs.Moves as marks
 use Rattle.gh_cycle.proofs.Going.Lasting.{beside-lasts}
@@ -18,7 +18,7 @@ pub record GoesBeside (z : Cycle) (a : ℕ) (h : Heap) (s : Marking) (m : heap.M
   pub beside : IsBeside z.arena (heap.moved z.arena a h m) then
   pub hands : (hand : InHand) → Hands a s hand → Hands a then (hand_after m hand)
   -- no mark is cleared
-  pub marked : (o : ℕ) → IsMarked (mark_words s.words) o → IsMarked (mark_words then.words) o
+  pub marked : (o : ℕ) → HasMark (mark_words s.words) o → HasMark (mark_words then.words) o
 
 -- the heap behind a move of this seat
 abbrev pub there : Cycle → (a : ℕ) → Heap → Marking → heap.Move → Heap
@@ -47,7 +47,7 @@ pub record GoesAlong (z : Cycle) (a : ℕ) (h : Heap) (s : Marking) (m : heap.Mo
   pub since : t.since ≡ s.since
   pub extents : t.extents ≡ s.extents
   pub colour : t.colour ≡ s.colour
-  pub marked : (o : ℕ) → IsMarked (mark_words s.words) o → IsMarked (mark_words t.words) o
+  pub marked : (o : ℕ) → HasMark (mark_words s.words) o → HasMark (mark_words t.words) o
   pub hands : (x : InHand) → Hands a s x → Hands a t x
 
 -- the slots that others fill they claim still
@@ -86,6 +86,7 @@ module _ (k : KnownOfMoves) (z : Cycle) (a : ℕ) (h : Heap) (s : Marking) (w : 
           placed = placed n (subst (λ (f : Name → ℕ). Placed (alloc_words s.words) (birth_words (there z a h s m).words) f n) p.place (subst (λ (r : Row). Placed r (birth_words (there z a h s m).words) (there z a h s m).place n) p.alloc o.placed));
           since = sym (ap (λ f. f (h.place n)) g.since) ∙ ap t.since (sym (ap (λ f. f n) p.place)) ∙ o.since;
         };
+        bases = ap (λ e. e.base) g.extents;
         extents = λ o is. record { size = ap (λ e. e.size o) g.extents; pointer = ap (λ e. e.pointer o) g.extents; noscan = ap (λ e. e.noscan o) g.extents };
         filling = λ o b is. all-fill m may own o b (sym (ap (λ f. f o) g.colour) ∙ is);
         registers = fit;

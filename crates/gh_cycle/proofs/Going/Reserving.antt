@@ -87,6 +87,7 @@ module _ (least : (c : ℕ) → c < 25 → 8 ≤ slot_of c) (apart : TheHeapIsAp
       reach = λ n r. r;
       since = λ o is. is;
       of_cycle = λ n o. record { made = o.made; placed = o.placed; since = o.since };
+      bases = refl;
       extents = λ o is. record { size = refl; pointer = refl; noscan = refl };
       filling = λ o b is. let d = filling o b is in record { size = d.size; claim = d.claim };
       registers = c.registers;

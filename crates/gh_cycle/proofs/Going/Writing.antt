@@ -1,8 +1,9 @@
 -- Fields and globals take values beside marking: pointers behind the write barrier, and a number where no object of the cycle has a pointer field.
 use Rattle.std.proofs.Common.{◌≡◌, ◌≢◌, ℕ, ◌+◌, Bool, true, false, refl, subst, arith}
-use Rattle.gh_cycle.proofs.Vocabulary.{Ask, Cell, ClaimsSlot, Cycle, EverValue, field_words, global_words, Hands, Heap, Holds, InHand, IsClean, IsOfCycle, IsPointer, IsReached, IsSince, KnownOfMoves, mark_words, Marking, Name, Placing, points, put, view}
+use Rattle.gh_cycle.proofs.Vocabulary.{Ask, Cell, ClaimsSlot, Cycle, EverValue, Hands, Heap, Holds, InHand, IsClean, IsOfCycle, IsPointer, IsReached, IsSince, KnownOfMoves, Marking, Name, Placing, points, put, view, seen_field, seen_global, seen_word}
 use Rattle.gh_heap.specs.Moves as heap
 use Rattle.gh_marks.specs.Moves as marks
+use Rattle.gh_cycle.proofs.Said.{seen-since}
 use Rattle.gh_cycle.proofs.Beginning.{names-it}
 use Rattle.gh_cycle.proofs.Going.Objects.{here, name-at}
 use Rattle.gh_cycle.proofs.Going.Plain.{goes-along, GoesAlong, GoesBeside, there, Together}
@@ -24,7 +25,7 @@ module _ (k : KnownOfMoves) (z : Cycle) (a : ℕ) (h : Heap) (s : Marking) (w : 
 
     -- a pointer is written behind the write barrier
     abbrev Barrier : Type 0
-    Barrier = points z.arena.shapes h.ever.type_of n i ≡ true → IsClean (mark_words s.words) (field_words s.words x) × IsClean (mark_words s.words) word
+    Barrier = points z.arena.shapes h.ever.type_of n i ≡ true → IsClean s.colour (seen_field s x) × IsClean s.colour (seen_word s.extents.base word)
 
     abbrev written : Marking
     written = record s { words = put s.words (Cell.Field x) word }
@@ -42,8 +43,8 @@ module _ (k : KnownOfMoves) (z : Cycle) (a : ℕ) (h : Heap) (s : Marking) (w : 
 
     along-by : (b : Bool) → points z.arena.shapes h.ever.type_of n i ≡ b → Barrier → GoesAlong z a h s (heap.Write n i value word) written
     along-by true e meets = along (marks.goes s (marks.PutField x word) marks.stays behind) (λ y is. (k.hands z a s y w.marking is).put_field x word) where
-      behind : marks.BehindBarrier s (s.words (Cell.Field x)) word
-      behind = record { old = (meets e).0; new = (meets e).1; since = word-since value word may.value_reached (subst (λ (p : Bool). Holds h.place h.ever.made p value word) e may.holds) }
+      behind : marks.BehindBarrier s (seen_field s x) (seen_word s.extents.base word)
+      behind = record { old = (meets e).0; new = (meets e).1; since = seen-since s.since s.extents.base w.beside.base word (word-since value word may.value_reached (subst (λ (p : Bool). Holds h.place h.ever.made p value word) e may.holds)) }
     along-by false e meets = along (marks.goes s (marks.Quiet (Ask.Store (Cell.Field x) word)) marks.stays (aside e)) (λ y is. (k.hands z a s y w.marking is).quiet (Ask.Store (Cell.Field x) word) (aside e))
 
     pub writes : Barrier → GoesBeside z a (here h s) s (heap.Write n i value word)
@@ -51,9 +52,9 @@ module _ (k : KnownOfMoves) (z : Cycle) (a : ℕ) (h : Heap) (s : Marking) (w : 
       claims : Claimed (heap.Write n i value word)
       claims o is = let c = w.beside.filling o a is in record { size = c.size; claim = c.claim }
 
-  pub writes-global : (i : ℕ) (value : EverValue) (word : ℕ) → heap.May z.arena a (view (here h s)) (heap.WriteGlobal i value word) → IsClean (mark_words s.words) (global_words s.words i) → IsClean (mark_words s.words) word → GoesBeside z a (here h s) s (heap.WriteGlobal i value word)
+  pub writes-global : (i : ℕ) (value : EverValue) (word : ℕ) → heap.May z.arena a (view (here h s)) (heap.WriteGlobal i value word) → IsClean s.colour (seen_global s i) → IsClean s.colour (seen_word s.extents.base word) → GoesBeside z a (here h s) s (heap.WriteGlobal i value word)
   writes-global i value word may old new = goes-along k z a h s w (heap.WriteGlobal i value word) may (record { none = refl; hand = λ y. refl; place = refl; types = refl; made = refl; alloc = refl }) (marks.moved z a s (marks.PutGlobal i word)) (record {
-    went = marks.goes s (marks.PutGlobal i word) marks.stays (record { old = old; new = new; since = word-since value word may.value_reached may.holds });
+    went = marks.goes s (marks.PutGlobal i word) marks.stays (record { old = old; new = new; since = seen-since s.since s.extents.base w.beside.base word (word-since value word may.value_reached may.holds) });
     words = refl;
     since = refl;
     extents = refl;

@@ -2,6 +2,8 @@
 use Rattle.std.proofs.Common.{◌≡◌, ◌≢◌, inl, ℕ, ◌^◌, ◌<◌, ◌≤◌, Bool, false, cond, refl, sym, ap, subst, ◌∙◌, arith, List, [], length, slice_index_or, Some, None, ◌%◌, ◌/◌}
 use Rattle.gh_holds.proofs.Vocabulary.{Actor, actors_after, ahead_at, Arena, arena, begin_post, Begun, bit_at, bit_at-zero, Cell, Coordinating, CoordStage, Cycle, drawn_first, END, Entry, Ever, EverValue, Hands, HasCleared, HasCursor, HasGoneOn, HoldsAt, IsAsItShould, IsBeginning, IsBeside, IsLed, IsOf, IsOpened, IsReady, IsToBegin, Legal, ListsKnown, mark_words, MarkFacts, Marking, MayBegin, Means, MOST_GOROUTINES, nothing, Op, Open, part_of, Place, Processor, processor_at, reference_of, REGISTERS, row_bit, run_is, RunPhase, Setup, StandsWithNothing, those, view, Words, words, WordsAreAtRest}
 use Rattle.gh_coord.specs.Handshake as leading
+use Rattle.gh_marks.specs.Colours.{IsSince}
+use Rattle.gh_marks.specs.Moves.{seen_is}
 use Rattle.gh_poll.specs.MarkFacts.{KnowsStacks}
 use Rattle.gh_stack.specs.Facts.{named}
 use Rattle.gh_marked.proofs.Vocabulary.{AreRegisters, KnowsAtAnyTime, register_at, Value}
@@ -77,10 +79,10 @@ module _ (setup : Setup) (lists : ListsKnown setup)
       few_goroutines : (g : ℕ) → IsOf z a g → g < MOST_GOROUTINES
       few_goroutines g its = omega (arith, its.0, lists.limits.goroutines_fit.1)
 
-      registers : (g : ℕ) → IsOf z a g → s.words (Cell.Scanned g) ≢ END → AreRegisters (s.registers g) (slice_index_or it.poll.local.stacks g [])
+      registers : (g : ℕ) → IsOf z a g → s.words (Cell.Scanned g) ≢ END → AreRegisters s.extents.base (s.registers g) (slice_index_or it.poll.local.stacks g [])
       registers g its other = record {
         whole = whole;
-        each = λ d below. opened.registers g d ∙ (ap (λ (x : Bool). cond x 0 (reference_of r.has.state.heap.place (r.has.state.heap.ever.register g d))) (goes_on g other) ∙ same_name r.has.state.heap.place r.has.state.heap.ever.made (r.has.state.heap.ever.register g d) (register_at it.poll g d) (means d below));
+        each = λ d below. opened.registers g d ∙ (ap (λ (x : Bool). cond x 0 (reference_of r.has.state.heap.place (r.has.state.heap.ever.register g d))) (goes_on g other) ∙ same_name r.has.state.heap.place r.has.state.heap.ever.made (r.has.state.heap.ever.register g d) (register_at it.poll g d) (means d below)) ∙ sym (seen_is s.extents.base opened.of_heap.base (named (register_at it.poll g d)));
         some = λ d reference below holds. some_name r.has.state.heap.place r.has.state.heap.ever.made (r.has.state.heap.ever.register g d) reference (subst (λ (v : Value). Means r.has.state.heap.place r.has.state.heap.ever.made (r.has.state.heap.ever.register g d) v) holds (means d below));
       } where
         whole : length (slice_index_or it.poll.local.stacks g []) ≡ REGISTERS
@@ -89,8 +91,11 @@ module _ (setup : Setup) (lists : ListsKnown setup)
         means : (d : ℕ) → d < length (slice_index_or it.poll.local.stacks g []) → Means r.has.state.heap.place r.has.state.heap.ever.made (r.has.state.heap.ever.register g d) (register_at it.poll g d)
         means d below = stands.registers g d its (subst (λ (x : ℕ). d < x) whole below)
 
+      of_cycle : (g : ℕ) → IsOf z a g → s.words (Cell.Scanned g) ≢ END → (d : ℕ) → d < length (slice_index_or it.poll.local.stacks g []) → IsSince s.since (s.registers g d)
+      of_cycle g its on d low = opened.opens.registers g d
+
       stacks : KnowsStacks cycle a s it.poll.local.stacks it.poll.local.scanned
-      stacks = grind (arith, opened, registers, should, stands)
+      stacks = grind (arith, of_cycle, opened, registers, should, stands)
 
       stands_still : StandsWithNothing cycle a s it
       stands_still = record {

@@ -1,7 +1,7 @@
 -- Where a cycle's marking ends: nobody has anything in hand, the marked objects are those that a script reaches, and with the store of the next sweep generation they are swept.
 use Rattle.std.proofs.Common.{◌≡◌, ◌≢◌, ◌⊎◌, inl, inr, ℕ, zero, suc, ◌-◌, ◌<◌, ◌≤◌, refl, sym, ap, subst, ◌∙◌, arith, List, Some, None, true}
 use Rattle.std.proofs.lemmas.Bool.{cases_lt}
-use Rattle.gh_holds.proofs.Vocabulary.{acks_of, Actor, actors_after, alloc_words, Arena, arena, began, began_words, BeginsCycle, birth_words, Cell, Close, CloseStage, Coordinating, Cycle, END, EndsClean, EndsMarked, Entry, Ever, ever, Good, Hands, HasGoneOn, Heap, IsBeginning, IsBeside, IsBounded, IsChecked, IsGrey, IsHeapOf, IsInCycle, IsKnown, IsLed, IsMade, IsMarked, IsMarkedObject, IsParked, IsPlacedAt, IsSeated, IsToBegin, Legal, ListsKnown, mark_words, MarkFacts, MarksToTheEnd, Name, not_beginning, nothing, Op, Placed, placed_there, Placing, processor_at, Reach, Row, row_bit, RunPhase, runs_are, Scanned, seated, Setup, stage_of, Stopped, those, Untouched, view, WaitsWithNone, Words, words}
+use Rattle.gh_holds.proofs.Vocabulary.{acks_of, Actor, actors_after, alloc_words, Arena, arena, began, began_words, BeginsCycle, birth_words, Cell, Close, CloseStage, Coordinating, Cycle, END, EndsClean, EndsMarked, Entry, Ever, ever, Good, Hands, HasGoneOn, HasMark, Heap, IsBeginning, IsBeside, IsBounded, IsChecked, IsGrey, IsHeapOf, IsInCycle, IsKnown, IsLed, IsMade, IsMarkedObject, IsParked, IsPlacedAt, IsSeated, IsToBegin, Legal, ListsKnown, mark_words, MarkFacts, MarksToTheEnd, Name, not_beginning, nothing, Op, Placed, placed_there, Placing, processor_at, Reach, Row, row_bit, RunPhase, runs_are, Scanned, seated, Setup, stage_of, Stopped, those, Untouched, view, WaitsWithNone, Words, words}
 use Rattle.gh_base.specs.Shapes.{ShapesFit}
 use Rattle.gh_coord.specs.Closing as close
 use Rattle.gh_coord.specs.Handshake as leading
@@ -133,7 +133,7 @@ module _ (setup : Setup) (lists : ListsKnown setup) where
     beside_there : IsBeside mark.marking.cycle.arena h mark.marking.shared
     beside_there = subst (λ (r : Arena). IsBeside r h mark.marking.shared) (sym arena_is) mark.marking.known.beside
 
-    pub reached_are_marked : (n : Name) → Reach h.ever n → IsMarked (mark_words mark.marking.shared.words) (h.place n)
+    pub reached_are_marked : (n : Name) → Reach h.ever n → HasMark (mark_words mark.marking.shared.words) (h.place n)
     reached_are_marked = lists.known.reached mark.marking.cycle h mark.marking.shared good_there (subst (λ (r : Arena). ShapesFit r.shapes) (sym arena_is) lists.good.fit) bounded_there beside_there clean.reached
 
     marks_are : mark_words mark.marking.shared.words ≡ mark_words (words setup es)
@@ -158,7 +158,7 @@ module _ (setup : Setup) (lists : ListsKnown setup) where
           let there : Placed (alloc_words h.words) (birth_words h.words) (λ m. a) n = subst (λ (w : Words). Placed (alloc_words w) (birth_words w) (λ m. a) n) (sym of.words_are) at_a in
           let here = placed_there z (view h) mark.marking.known.has.good.heap n a (began_at.since.made n made) there.set there.says in
           lists.known.marked mark.marking.cycle h mark.marking.shared (ever setup began_at.cycle_is.begun) mark.marking.good mark.marking.known.beside.words none_placing began_at.since n here.1
-          (subst (λ (o : ℕ). IsMarked (mark_words mark.marking.shared.words) o) (sym here.0) (subst (λ (w : Row). row_bit w a ≡ 1) (sym marks_are) set)) made
+          (subst (λ (o : ℕ). HasMark (mark_words mark.marking.shared.words) o) (sym here.0) (subst (λ (w : Row). row_bit w a ≡ 1) (sym marks_are) set)) made
 
       is_marked : Reach (ever setup es) n → IsMarkedObject setup (words setup es) n
       is_marked r =
@@ -171,7 +171,7 @@ module _ (setup : Setup) (lists : ListsKnown setup) where
       not_unmarked a made at_a none r =
           let there : Placed (alloc_words h.words) (birth_words h.words) (λ m. a) n = subst (λ (w : Words). Placed (alloc_words w) (birth_words w) (λ m. a) n) (sym of.words_are) at_a in
           let here = placed_there z (view h) mark.marking.known.has.good.heap n a (subst (λ (v : Ever). IsMade v.made n) (sym of.ever_is) made) there.set there.says in
-          let set = subst (λ (o : ℕ). IsMarked (mark_words mark.marking.shared.words) o) here.0 (reached_are_marked n (subst (λ (v : Ever). Reach v n) (sym of.ever_is) r)) in
+          let set = subst (λ (o : ℕ). HasMark (mark_words mark.marking.shared.words) o) here.0 (reached_are_marked n (subst (λ (v : Ever). Reach v n) (sym of.ever_is) r)) in
           let set_there = subst (λ (w : Row). row_bit w a ≡ 1) marks_are set in
           omega (arith, none, set_there)
 

@@ -134,15 +134,15 @@ module _ (steps : EachStepGoesByMoves) (z : Cycle) (a : ℕ) (s t : Shared) (goo
     after_global i sh f false g = none_done
 
     -- a shading that ends, of the value of a global
-    shade_ends : (i : ℕ) (sh : shade.Shading) (held : Option Held) → Hands a t (marks.in_hand held NoClaim) → (p : ShadeStage) → shade.is_busy p ≡ true → Hands a s (shade_facts.in_hand (marks.in_hand None (marks.claim_at i sh.reference p)) sh.held (shade_facts.pending_at (shade.object_of sh.reference) p)) → shade.given (shade.goes_at sh p found) ≡ Some Shaded.Done → 1 + C s ≤ C t
-    shade_ends i sh held g ShadeStage.LoadPage busy f is = absurd cc
-    shade_ends i sh held g (ShadeStage.SetMark noscan) busy f is = read_global i sh.reference ((f.has.is_read i sh.reference).0 refl) (λ x. let no : NoClaim ≡ ReadOf i sh.reference = (g.has.is_read i sh.reference).1 x in cc)
-    shade_ends i sh held g ShadeStage.WaitForRoom busy f is = absurd cc
-    shade_ends i sh held g ShadeStage.Enter busy f is = enters_object (shade.object_of sh.reference) ((f.has.is_pending (shade.object_of sh.reference)).0 refl) (λ x. let no : None ≡ Some (shade.object_of sh.reference) = (g.has.is_pending (shade.object_of sh.reference)).1 x in cc)
-    shade_ends i sh held g ShadeStage.Ended busy f is = absurd cc
+    shade_ends : (i value : ℕ) (sh : shade.Shading) (held : Option Held) → Hands a t (marks.in_hand held NoClaim) → (p : ShadeStage) → shade.is_busy p ≡ true → Hands a s (shade_facts.in_hand (marks.in_hand None (marks.claim_at i value p)) sh.held (shade_facts.pending_at (shade.object_of sh.reference) p)) → shade.given (shade.goes_at sh p found) ≡ Some Shaded.Done → 1 + C s ≤ C t
+    shade_ends i value sh held g ShadeStage.LoadPage busy f is = absurd cc
+    shade_ends i value sh held g (ShadeStage.SetMark noscan) busy f is = read_global i value ((f.has.is_read i value).0 refl) (λ x. let no : NoClaim ≡ ReadOf i value = (g.has.is_read i value).1 x in cc)
+    shade_ends i value sh held g ShadeStage.WaitForRoom busy f is = absurd cc
+    shade_ends i value sh held g ShadeStage.Enter busy f is = enters_object (shade.object_of sh.reference) ((f.has.is_pending (shade.object_of sh.reference)).0 refl) (λ x. let no : None ≡ Some (shade.object_of sh.reference) = (g.has.is_pending (shade.object_of sh.reference)).1 x in cc)
+    shade_ends i value sh held g ShadeStage.Ended busy f is = absurd cc
 
-    after_shade : (i : ℕ) (sh : shade.Shading) → shade.is_busy sh.stage ≡ true → shade_facts.Facts z a s (marks.in_hand None (marks.claim_at i sh.reference sh.stage)) sh → (out : Option Shaded) → shade.gives sh found ≡ out → Facts (worker.after_shade w (shade.goes sh found) out) → shading_word out + C s ≤ C t
-    after_shade i sh busy f out is g = grind (arith, done_with, none_done, shade_ends)
+    after_shade : (i value : ℕ) (sh : shade.Shading) → shade.is_busy sh.stage ≡ true → shade_facts.Facts z a s (marks.in_hand None (marks.claim_at i value sh.stage)) sh → (out : Option Shaded) → shade.gives sh found ≡ out → Facts (worker.after_shade w (shade.goes sh found) out) → shading_word out + C s ≤ C t
+    after_shade i value sh busy f out is g = grind (arith, done_with, none_done, shade_ends)
 
     done_at : (p : WorkerStage) → HasStep p → marks.StageFacts z a s w.held p → Facts (worker.goes_at z.arena.layout w p found) → words_done z.arena.layout p found + C s ≤ C t
     done_at p busy f g = grind (arith, after_global, after_scan, after_shade, none_done)

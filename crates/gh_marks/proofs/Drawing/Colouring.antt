@@ -1,6 +1,6 @@
 -- The moves of marking that colour an object.
 use Rattle.std.proofs.Common.{◌≡◌, ◌≢◌, ℕ, ◌+◌, ◌<◌, ◌≤◌, true, arith, refl, sym, ◌∙◌, ap, inl, inr, subst, Some, None}
-use Rattle.gh_marks.proofs.Vocabulary.{Black, Blacken, Cell, Cycle, Goes, Good, IsClean, IsDrawn, IsPointer, mark_words, May, Move, moved, moves, NilOrMarked, Pending, put1, Row, shade_of, shaded, ShadeFlat, Shades, Shared, Shows, stays, Tricolour, update, White}
+use Rattle.gh_marks.proofs.Vocabulary.{Black, Blacken, Cycle, Goes, Good, IsClean, IsDrawn, IsPointer, mark_words, May, Move, moved, moves, NilOrMarked, Pending, put1, Row, seen_field, shade_of, shaded, ShadeFlat, Shades, Shared, Shows, stays, Tricolour, update, White}
 use Rattle.gh_tri.specs.declared.Colour.{Colour as Shade, Colour}
 use Rattle.gh_tri.specs.declared.Move.TheVariants as tri
 use Rattle.gh_marks.proofs.Bits.{two-ways, white-colour}
@@ -63,6 +63,6 @@ module _ (z : Cycle) (a : ℕ) (s : Shared) (at : Row) (p : Tricolour) (room : �
     clean : (n : ℕ) → 0 < n → n < p.objects → at n ≡ o → (f : ℕ) → f < p.fields → NilOrMarked p (p.value n f)
     clean n some below e f l = elim (pointer-tells s.extents (at n) f) [
       | inl y ↦ clean-marked z s at p sh g.marks (p.value n f) _ (value-field z s at p sh n f some below y.1)
-          (subst (λ x. IsClean (mark_words s.words) (s.words (Cell.Field (x + f)))) (sym e) (may.1 f (subst (λ x. IsPointer s.extents x f) e y.1)))
+          (subst (λ x. IsClean s.colour (seen_field s (x + f))) (sym e) (may.1 f (subst (λ x. IsPointer s.extents x f) e y.1)))
       | inr x ↦ (λ w h. let none : p.value n f ≡ None = named-nothing at p.objects (p.value n f) _ (sh.fields n f some below) (pointer-none s (at n) f x.1) in cc)
     ]

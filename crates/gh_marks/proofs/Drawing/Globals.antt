@@ -1,6 +1,6 @@
 -- The scan of a global. Once all are scanned the globals are black in the picture.
 use Rattle.std.proofs.Common.{◌≡◌, ℕ, zero, suc, ◌+◌, ◌<◌, ◌≤◌, Bool, true, false, arith, refl, sym, ◌∙◌, ap, inl, inr, ◌⊎◌, subst, None}
-use Rattle.gh_marks.proofs.Vocabulary.{cases_lt, Cell, Cycle, eqb_tells, Good, is_scanned, IsClean, IsDrawn, mark_words, May, moved, NilOrMarked, Progress, put1, put2, Row, ScanGlobal, Scanned, Shared, Shows, stays, Tricolour, update}
+use Rattle.gh_marks.proofs.Vocabulary.{cases_lt, Cycle, eqb_tells, Good, is_scanned, IsClean, IsDrawn, May, moved, NilOrMarked, Progress, put1, put2, Row, ScanGlobal, Scanned, seen_global, Shared, Shows, stays, Tricolour, update}
 use Rattle.gh_tri.specs.declared.Colour.{Colour}
 use Rattle.gh_marks.proofs.Drawing.Reading.{clean-marked, global-none, named-nothing, value-global}
 use Rattle.gh_marks.proofs.Drawing.Runs.{filled-at, filled_to, goes-black, goes-scanned}
@@ -34,7 +34,7 @@ module _ (z : Cycle) (a : ℕ) (s : Shared) (at : Row) (p : Tricolour) (room : �
   within : (f : ℕ) → f < z.arena.layout.globals → f < p.fields
   within f l = omega (arith, sh.globals_fit)
 
-  clean-global : (f : ℕ) → f < z.arena.layout.globals → IsClean (mark_words s.words) (s.words (Cell.Global f)) → NilOrMarked p (p.value 0 f)
+  clean-global : (f : ℕ) → f < z.arena.layout.globals → IsClean s.colour (seen_global s f) → NilOrMarked p (p.value 0 f)
   clean-global f l clean = clean-marked z s at p sh g.marks (p.value 0 f) _ (value-global z s at p sh f l) clean
 
   -- some global is left
@@ -69,7 +69,7 @@ module _ (z : Cycle) (a : ℕ) (s : Shared) (at : Row) (p : Tricolour) (room : �
     clean f l = elim (cases_lt f z.arena.layout.globals) [
       | inr le ↦ (λ w e. let none : p.value 0 f ≡ None = named-nothing at p.objects (p.value 0 f) _ (sh.globals f) (global-none z s f le) in cc)
       | inl below ↦ elim (eqb_tells i f) [
-        | inl y ↦ clean-global f below (subst (λ j. IsClean (mark_words s.words) (s.words (Cell.Global j))) y.1 may.1)
+        | inl y ↦ clean-global f below (subst (λ j. IsClean s.colour (seen_global s j)) y.1 may.1)
         | inr n ↦ clean-global f below ((the-picture-says z s g).globals f below (is-scanned (s.progress f) (rw (n.0) at (all f below))))
       ]
     ]

@@ -1,16 +1,16 @@
 -- What the invariants of the picture say of marking, and of its end.
 use Rattle.std.proofs.Common.{◌≡◌, ◌≢◌, ℕ, zero, suc, ◌+◌, ◌<◌, Bool, true, false, arith, refl, sym, ◌∙◌, ap, inl, inr, subst, Some}
-use Rattle.gh_marks.proofs.Vocabulary.{cases_lt, Cell, Cycle, Edge, from_global, from_grey, from_white, Good, Invariants, is_black_stack, is_scanned, IsClean, IsDone, IsMarked, IsMarkingDone, IsPictured, IsPointer, IsReachedInPicture, IsSafe, mark_words, MarkedWhatIsReached, MarkingEndsClean, MarkingEndsDrawn, MarksGood, nat_tests, Protected, Reached, REGISTERS, Row, row_bit, rows, shade_of, Shared, Shows, ThePictureSays, Tricolour, WhatThePictureSays}
+use Rattle.gh_marks.proofs.Vocabulary.{cases_lt, Cell, Cycle, from_global, from_grey, from_white, Good, Invariants, is_black_stack, is_scanned, IsClean, IsDone, IsMarked, IsMarkingDone, IsPictured, IsPointer, IsReachedInPicture, IsSafe, mark_words, MarkedWhatIsReached, MarkingEndsClean, MarkingEndsDrawn, MarksGood, nat_tests, Protected, Reached, REGISTERS, Row, rows, seen_field, seen_global, shade_of, Shared, Shows, ThePictureSays, Tricolour, WhatThePictureSays, White}
 use Rattle.gh_tri.specs.declared.Colour.{Colour}
 use Rattle.gh_tri.specs.Invariants as tri
 use Rattle.gh_marks.specs.Ends as ends
-use Rattle.gh_marks.proofs.Drawing.Reading.{global-none, is-grey, is-waiting, is-white, marked-clean, marked-object, named-some, named-word, pointer-some, pointer-word, value-field, value-global, within-fields}
+use Rattle.gh_marks.proofs.Drawing.Reading.{global-none, marked-bit, is-grey, is-waiting, is-white-colour, marked-clean, marked-object, named-some, named-word, pointer-some, pointer-word, value-field, value-global, within-fields}
 
 module _ (z : Cycle) (s : Shared) (at : Row) (p : Tricolour) (marks : MarksGood (mark_words s.words) s.colour) (sh : Shows z s at p) (i : Invariants p) where
   -- a field of an object of the cycle that holds an object: it is a pointer field, and names it
   record IsField (n k m : ℕ) : Type 0 where
     pub pointer : IsPointer s.extents (at n) k
-    pub word : s.words (Cell.Field (at n + k)) ≡ at m + 1
+    pub word : seen_field s (at n + k) ≡ at m + 1
     pub some : 0 < m
     pub below : m < p.objects
 
@@ -22,7 +22,7 @@ module _ (z : Cycle) (s : Shared) (at : Row) (p : Tricolour) (marks : MarksGood 
 
   record IsGlobal (k m : ℕ) : Type 0 where
     pub within : k < z.arena.layout.globals
-    pub word : s.words (Cell.Global k) ≡ at m + 1
+    pub word : seen_global s k ≡ at m + 1
     pub some : 0 < m
     pub below : m < p.objects
 
@@ -34,19 +34,19 @@ module _ (z : Cycle) (s : Shared) (at : Row) (p : Tricolour) (marks : MarksGood 
     clash : {w : ℕ} (m : ℕ) → w ≡ at m + 1 → w ≡ 0 → ⊥
     clash m x y = omega (arith, x, y)
 
-  white-bit : (n : ℕ) → 0 < n → n < p.objects → p.colour n ≡ Colour.White → row_bit (mark_words s.words) (at n) ≡ 0
-  white-bit n some below e = marks (at n) ∙ is-white (s.colour (at n)) (sym (sh.colours n some below) ∙ e)
+  white-bit : (n : ℕ) → 0 < n → n < p.objects → p.colour n ≡ Colour.White → s.colour (at n) ≡ White
+  white-bit n some below e = is-white-colour (s.colour (at n)) (sym (sh.colours n some below) ∙ e)
 
   -- what is not made is white
   made : (n : ℕ) → p.colour n ≢ Colour.White → n < p.objects
   made n h = elim (cases_lt n p.objects) [ inl l ↦ l | inr le ↦ absurd (h (i.unmade_objects.white n le)) ]
 
   -- a scanned global holds what is marked
-  global-clean : (k : ℕ) → k < z.arena.layout.globals → is_scanned (s.progress k) ≡ true → IsClean (mark_words s.words) (s.words (Cell.Global k))
+  global-clean : (k : ℕ) → k < z.arena.layout.globals → is_scanned (s.progress k) ≡ true → IsClean s.colour (seen_global s k)
   global-clean k l done = marked-clean z s at p sh marks (p.value 0 k) _ (value-global z s at p sh k l) (i.scanned_fields 0 k (sh.scanned k l ∙ done))
 
   -- so does a field of a black object
-  black-clean : (n k : ℕ) → 0 < n → n < p.objects → p.colour n ≡ Colour.Black → IsPointer s.extents (at n) k → IsClean (mark_words s.words) (s.words (Cell.Field (at n + k)))
+  black-clean : (n k : ℕ) → 0 < n → n < p.objects → p.colour n ≡ Colour.Black → IsPointer s.extents (at n) k → IsClean s.colour (seen_field s (at n + k))
   black-clean n k some below black l =
       marked-clean z s at p sh marks (p.value n k) _ (value-field z s at p sh n k some below l)
       (i.scanned_fields n k (i.marked_objects.black n k black (within-fields z s at p sh n k some below l)))
@@ -83,7 +83,7 @@ module _ (z : Cycle) (s : Shared) (at : Row) (p : Tricolour) (marks : MarksGood 
   stack-safe g d l few black o e =
       let n = named-word at p.objects o (p.register g d) _ (sh.registers g d l few) e in
       elim (i.black_stacks.black g d n.0 (λ r below. sh.seen g r l below ∙ black) few n.4) [
-        | inl marked ↦ inl (subst (IsMarked (mark_words s.words)) n.3 (marked-object z s at p sh marks n.0 n.1 n.2 marked))
+        | inl marked ↦ inl (subst (IsMarked s.colour) n.3 (marked-object z s at p sh marks n.0 n.1 n.2 marked))
         | inr known ↦ inr (subst (Protected z.arena.layout.globals (rows s)) n.3 (guarded n.0 known).2)
       ]
 
@@ -111,7 +111,7 @@ module _ (z : Cycle) (s : Shared) (at : Row) (p : Tricolour) (sh : Shows z s at 
     next : Shown q → Shown o
     next t =
         let l' : IsPointer s.extents (at t.0) k = subst (λ x. IsPointer s.extents x k) (sym t.3) l in
-        let e' : s.words (Cell.Field (at t.0 + k)) ≡ o + 1 = ap (λ x. s.words (Cell.Field (x + k))) t.3 ∙ e in
+        let e' : seen_field s (at t.0 + k) ≡ o + 1 = ap (λ x. seen_field s (x + k)) t.3 ∙ e in
         let n = named-word at p.objects o (p.value t.0 k) _ (value-field z s at p sh t.0 k t.1 t.2 l') e' in
         (n.0, n.1, n.2, n.3, tri.field t.0 k n.0 t.4 (record { within = within-fields z s at p sh t.0 k t.1 t.2 l'; holds = n.4 }))
 
@@ -119,7 +119,7 @@ says : (z : Cycle) (s : Shared) (at : Row) (p : Tricolour) → Good z s → Show
 says z s at p good sh i = record {
   globals = λ k l e. global-clean z s at p good.marks sh i k l (ap is_scanned e);
   blacks = λ o k e l. let n = sh.numbers.all o (good.objects.shaded o (rw e tt)) in
-      subst (λ x. IsClean (mark_words s.words) (s.words (Cell.Field (x + k)))) n.3
+      subst (λ x. IsClean s.colour (seen_field s (x + k))) n.3
       (black-clean z s at p good.marks sh i n.0 k n.1 n.2 (sh.colours n.0 n.1 n.2 ∙ ap shade_of (ap s.colour n.3 ∙ e)) (subst (λ x. IsPointer s.extents x k) (sym n.3) l));
   stacks = λ g d l few e. stack-safe z s at p good.marks sh i g d l few (number (s.words (Cell.Scanned g)) e);
 } where
@@ -137,5 +137,5 @@ pub marking-ends-clean : MarkedWhatIsReached → MarkingEndsClean
 marking-ends-clean law z s good d o r =
     let x : IsPictured z s 0 = good.pictured 0 in
     let n = shown z s x.at x.picture x.shows o r in
-    subst (IsMarked (mark_words s.words)) n.3
-    (marked-object z s x.at x.picture x.shows good.marks n.0 n.1 n.2 (λ white. law x.picture x.invariants (picture-done z s x.at x.picture x.shows x.invariants d) n.0 white n.4))
+    marked-bit (s.colour o) (good.marks o) (subst (IsMarked s.colour) n.3
+    (marked-object z s x.at x.picture x.shows good.marks n.0 n.1 n.2 (λ white. law x.picture x.invariants (picture-done z s x.at x.picture x.shows x.invariants d) n.0 white n.4)))

@@ -1,6 +1,6 @@
 -- The moves of marking that are no move of the picture.
 use Rattle.std.proofs.Common.{◌≡◌, ℕ, ◌+◌, ◌-◌, ◌≤◌, true, arith, refl, sym, ◌∙◌, ap, inl, inr}
-use Rattle.gh_marks.proofs.Vocabulary.{Buffered, Cell, Claimed, ClaimGlobal, Colour, Cycle, Enter, eqb_tells, GiveBuffer, Good, is_scanned, IsDrawn, May, Move, moved, PassGlobals, Placing, Progress, Quiet, Read, ReadGlobal, Reserve, Row, shade_of, ShadeAgain, Shared, Shows, stays, TakeBuffer, TakeEntry, Taken, Tricolour, Untouched, update}
+use Rattle.gh_marks.proofs.Vocabulary.{Buffered, Claimed, ClaimGlobal, Colour, Cycle, Enter, eqb_tells, GiveBuffer, Good, is_scanned, IsDrawn, May, Move, moved, PassGlobals, Placing, Progress, Quiet, Read, ReadGlobal, Reserve, Row, seen_global, shade_of, ShadeAgain, Shared, Shows, stays, TakeBuffer, TakeEntry, Taken, Tricolour, Untouched, update}
 use Rattle.gh_marks.proofs.Drawing.Showing.{shows-still}
 use Rattle.gh_marks.proofs.Quiet.{ReadRows, Unread, unread}
 
@@ -63,7 +63,7 @@ module _ (z : Cycle) (a : ℕ) (s : Shared) (at : Row) (p : Tricolour) (room : �
   pub read-drawn : (i : ℕ) → Drawn (ReadGlobal i)
   read-drawn i may = let t = moved z a s (ReadGlobal i) in
       stays-drawn t (shows-still z s at p sh s.words s.colour s.filled t.progress s.passed (λ q k i l. refl) (λ i l. refl) (λ h. refl) (λ q known. refl)
-      (λ j. same-progress i (Read a (s.words (Cell.Global i))) (sym (ap is_scanned may)) j))
+      (λ j. same-progress i (Read a (seen_global s i)) (sym (ap is_scanned may)) j))
 
   -- what is not placed is not of the cycle
   pub reserve-drawn : (o : ℕ) → Drawn (Reserve o)

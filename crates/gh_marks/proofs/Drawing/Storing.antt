@@ -1,6 +1,6 @@
 -- The stores of marking, behind the write barrier.
 use Rattle.std.proofs.Common.{◌≡◌, ℕ, ◌+◌, ◌-◌, ◌<◌, ◌≤◌, Bool, true, false, arith, refl, sym, ap, cond, eqb, inl, inr, ◌⊎◌, subst, Option, ◌==◌, ◌&&◌, nat_lt}
-use Rattle.gh_marks.proofs.Vocabulary.{Cell, Cycle, eqb_tells, global_at, Good, IsClean, IsDrawn, IsField, IsPointer, mark_words, May, moved, Names, nat_tests, NilOrMarked, pointer_at, put2, PutField, PutGlobal, Row, Shared, Shows, stays, Tricolour}
+use Rattle.gh_marks.proofs.Vocabulary.{Cell, Cycle, eqb_tells, global_at, Good, IsClean, IsDrawn, IsField, IsPointer, May, moved, Names, nat_tests, NilOrMarked, pointer_at, put2, PutField, PutGlobal, Row, seen_field, seen_word, Shared, Shows, stays, Tricolour}
 use Rattle.gh_marks.proofs.Drawing.Reading.{clean-marked, is_pointer, lt-tells, names-made, numbered, value-field, value-global, within-fields}
 use Rattle.gh_marks.proofs.Drawing.Runs.{goes-store, goes-stores, stored_to}
 use Rattle.gh_marks.proofs.Drawing.Showing.{shows-still, shows-stored}
@@ -22,11 +22,11 @@ module _ (z : Cycle) (a : ℕ) (s : Shared) (at : Row) (p : Tricolour) (room : �
     hit-tells n some = grind (arith, nat_tests)
 
     module _ (value : ℕ) (may : May z a s (PutField x value)) where
-      named : (v : Option ℕ) × Names at p.objects v value
-      named = numbered s.since at p.objects value sh.numbers may.since
+      named : (v : Option ℕ) × Names at p.objects v (seen_word s.extents.base value)
+      named = numbered s.since at p.objects (seen_word s.extents.base value) sh.numbers may.since
 
       abbrev stored : ℕ → ℕ → Option ℕ
-      stored = stored_to p 0 named.0 some-stack (names-made z s at p sh named.0 value named.1) (clean-marked z s at p sh g.marks named.0 value named.1 may.new) sh.reads hit (λ n. x - at n) p.objects
+      stored = stored_to p 0 named.0 some-stack (names-made z s at p sh named.0 (seen_word s.extents.base value) named.1) (clean-marked z s at p sh g.marks named.0 (seen_word s.extents.base value) named.1 may.new) sh.reads hit (λ n. x - at n) p.objects
 
       may-store : (n : ℕ) → n < p.objects → hit n ≡ true → IsField p n (x - at n) × NilOrMarked p (p.value n (x - at n))
       may-store n below h = elim (lt-tells 0 n) [
@@ -36,7 +36,7 @@ module _ (z : Cycle) (a : ℕ) (s : Shared) (at : Row) (p : Tricolour) (room : �
           | inl t ↦ (
             record { made = below; within = within-fields z s at p sh n (x - at n) some.1 below t.1.pointer },
             clean-marked z s at p sh g.marks (p.value n (x - at n)) _ (value-field z s at p sh n (x - at n) some.1 below t.1.pointer)
-                (subst (λ y. IsClean (mark_words s.words) (s.words (Cell.Field y))) (sym t.1.word) may.old),
+                (subst (λ y. IsClean s.colour (seen_field s y)) (sym t.1.word) may.old),
           )
         ]
       ] where
@@ -53,14 +53,14 @@ module _ (z : Cycle) (a : ℕ) (s : Shared) (at : Row) (p : Tricolour) (room : �
       put_field-drawn = record {
         picture = record p { value = stored };
         at = at;
-        goes = goes-stores p 0 named.0 some-stack (names-made z s at p sh named.0 value named.1) (clean-marked z s at p sh g.marks named.0 value named.1 may.new) sh.reads hit (λ n. x - at n) may-store p.objects (omega arith);
+        goes = goes-stores p 0 named.0 some-stack (names-made z s at p sh named.0 (seen_word s.extents.base value) named.1) (clean-marked z s at p sh g.marks named.0 (seen_word s.extents.base value) named.1 may.new) sh.reads hit (λ n. x - at n) may-store p.objects (omega arith);
         shows = shows-stored z s at p sh (moved z a s (PutField x value)).words stored stored-globals (λ h. refl) stored-fields;
         room_left = omega arith;
       }
 
   module _ (i value : ℕ) (may : May z a s (PutGlobal i value)) where
-    named_global : (v : Option ℕ) × Names at p.objects v value
-    named_global = numbered s.since at p.objects value sh.numbers may.since
+    named_global : (v : Option ℕ) × Names at p.objects v (seen_word s.extents.base value)
+    named_global = numbered s.since at p.objects (seen_word s.extents.base value) sh.numbers may.since
 
     -- no global of the layout
     past : z.arena.layout.globals ≤ i → IsDrawn z (moved z a s (PutGlobal i value)) p room
@@ -75,7 +75,9 @@ module _ (z : Cycle) (a : ℕ) (s : Shared) (at : Row) (p : Tricolour) (room : �
       same j l = elim (eqb_tells i j) [ inl y ↦ absurd (omega (arith, y.1)) | inr n ↦ rw (n.0) refl ]
 
     put-globals : i < z.arena.layout.globals → (j : ℕ) → Names at p.objects (put2 p.value 0 i named_global.0 0 j) (global_at z (moved z a s (PutGlobal i value)) j)
-    put-globals l j = grind arith
+    put-globals l j = elim (eqb_tells i j) [ inl y ↦ rw (y.0, below y.1) named_global.1 | inr n ↦ rw (n.0) (sh.globals j) ] where
+      below : i ≡ j → nat_lt j z.arena.layout.globals ≡ true
+      below e = elim (lt-tells j z.arena.layout.globals) [ inl t ↦ t.0 | inr t ↦ absurd (omega (arith, l, e, t.1)) ]
 
     put-fields : (n k : ℕ) → 0 < n → n < p.objects → Names at p.objects (put2 p.value 0 i named_global.0 n k) (pointer_at s (at n) k)
     put-fields n k some below = grind (arith, nat_tests)
@@ -86,7 +88,7 @@ module _ (z : Cycle) (a : ℕ) (s : Shared) (at : Row) (p : Tricolour) (room : �
       | inl t ↦ record {
         picture = record p { value = put2 p.value 0 i named_global.0 };
         at = at;
-        goes = goes-store p 0 named_global.0 some-stack (names-made z s at p sh named_global.0 value named_global.1) (clean-marked z s at p sh g.marks named_global.0 value named_global.1 may.new) sh.reads 0 i
+        goes = goes-store p 0 named_global.0 some-stack (names-made z s at p sh named_global.0 (seen_word s.extents.base value) named_global.1) (clean-marked z s at p sh g.marks named_global.0 (seen_word s.extents.base value) named_global.1 may.new) sh.reads 0 i
             (record { made = sh.numbers.some; within = within t.1 }) (clean-marked z s at p sh g.marks (p.value 0 i) _ (value-global z s at p sh i t.1) may.old);
         shows = shows-stored z s at p sh (moved z a s (PutGlobal i value)).words (put2 p.value 0 i named_global.0) (put-globals t.1) (λ h. refl) put-fields;
         room_left = omega arith;

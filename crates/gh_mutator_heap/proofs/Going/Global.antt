@@ -1,6 +1,6 @@
 -- Steps of the load and the store of a global beside marking. It is written behind the barrier.
 use Rattle.std.proofs.Common.{◌≡◌, ℕ, Bool, true, false, cond, Option, None, inr, refl, sym, ap, subst, ◌∙◌, arith}
-use Rattle.gh_mutator_heap.proofs.Vocabulary.{acted, acting, after_write, Answer, applied, Ask, at_stage, at_task, BehindBarrier, Cell, Cycle, EverValue, Facts, Fault, follows, from_global, Global, GlobalStage, Heap, held_then, holding_only, Holds, IsBetween, IsClean, keeping, Keeps, mark_words, MarkFacts, Marking, naming, nothing, Op, PointerCell, PointerWrite, Polling, Processor, PutsGlobal, register_of, Sets, sets_global, stacks_last, step, StepsOn, Task, TaskFacts, Together, Value, value_of, value_told, Words, WriteStage}
+use Rattle.gh_mutator_heap.proofs.Vocabulary.{acted, acting, after_write, Answer, applied, Ask, at_stage, at_task, BehindBarrier, Cell, Cycle, EverValue, Facts, Fault, follows, from_global, Global, GlobalStage, Heap, held_then, holding_only, Holds, IsBetween, IsClean, keeping, Keeps, MarkFacts, Marking, naming, nothing, Op, PointerCell, PointerWrite, Polling, Processor, PutsGlobal, register_of, seen_word, Sets, sets_global, stacks_last, step, StepsOn, Task, TaskFacts, Together, Value, value_of, value_told, Words, WriteStage}
 use Rattle.gh_barrier.specs.Giving as write_on
 use Rattle.gh_barrier.specs.Listing as write
 use Rattle.gh_cycle.specs.Deeds.{Rests}
@@ -49,7 +49,7 @@ module _ (k : Known) (x : Global) (w : PointerWrite) (z : Cycle) (a : ℕ) (h : 
     abbrev word : ℕ
     word = write.pointer_word w.pointer
 
-    barrier : BehindBarrier s (s.words (write.cell_at w.at)) word
+    barrier : BehindBarrier s (seen_word s.extents.base (s.words (write.cell_at w.at))) (seen_word s.extents.base word)
     barrier = k.writes.stores z a s nothing wrote refl t.facts.task_is.writes
 
     cell_is : write.cell_at w.at ≡ Cell.Global x.k
@@ -59,8 +59,8 @@ module _ (k : Known) (x : Global) (w : PointerWrite) (z : Cycle) (a : ℕ) (h : 
     holds = subst (λ (i : ℕ). Holds h.place h.ever.made true stored i) (sym (word_written z.arena.layout (PointerCell.Global x.k) (register_of m x.g x.r) wrote t.fine.task.4))
         (word_holds h.place h.ever.made true stored (register_of m x.g x.r) (t.fine.knows.stands.registers x.g x.r t.fine.task.0.of t.fine.task.1) (fits_pointer stored t.fine.task.3))
 
-    old : IsClean (mark_words s.words) (h.words (Cell.Global x.k))
-    old = subst (λ (i : ℕ). IsClean (mark_words s.words) i) (ap s.words cell_is ∙ ap (λ (v : Words). v (Cell.Global x.k)) t.beside.words) barrier.old
+    old : IsClean s.colour (seen_word s.extents.base (h.words (Cell.Global x.k)))
+    old = subst (λ (i : ℕ). IsClean s.colour (seen_word s.extents.base i)) (ap s.words cell_is ∙ ap (λ (v : Words). v (Cell.Global x.k)) t.beside.words) barrier.old
 
     puts : StepsOn z a (heap_then k z a h s it pending t l) s (processor_then k z a h s it pending t l)
     puts = by_deed k z a h s it pending t l (PutsGlobal x.k stored word) tt

@@ -1,6 +1,6 @@
 -- What a step of a processor comes to beside marking: a deed, by which the state of marking follows the heap; or moves of marking alone. And what is known of its stacks behind it.
-use Rattle.std.proofs.Common.{◌≡◌, ◌≢◌, ℕ, ◌<◌, ◌≤◌, false, [], length, Option, Some, None, refl, sym, ap, subst, ◌∙◌, arith, slice_index_or}
-use Rattle.gh_mutator_heap.proofs.Vocabulary.{acted, acts, Answer, AreRegisters, Ask, asks, AssistsByMoves, at_task, Cell, cell_of, ClaimedFieldsAreAside, ClaimsSlot, Cycle, Deed, DeedsGoBeside, DoesPoints, effect, END, Ever, ever_by, EverValue, FillsNone, hand_behind, Hands, Heap, InHand, IsBeside, IsOf, Keeps, KnowsAtAnyTime, KnowsMarking, KnowsStacks, MarkFacts, Marking, MarkingAloneGoesBeside, MarksByMoves, Means, MeetsByDeed, named, ObjectsAreKnownBeside, Place, Processor, REGISTERS, RowsAreWritten, SlotsAreReserved, StepsOn, takes, Task, TaskFacts, Together, Value, view, Words, WritesByMoves}
+use Rattle.std.proofs.Common.{◌≡◌, ◌≢◌, ℕ, ◌<◌, ◌≤◌, true, false, List, [], length, Option, Some, None, refl, sym, ap, subst, ◌∙◌, arith, slice_index_or}
+use Rattle.gh_mutator_heap.proofs.Vocabulary.{acted, acts, Answer, Arena, AreRegisters, Ask, asks, AssistsByMoves, at_task, Cell, cell_of, ClaimedFieldsAreAside, ClaimsSlot, Cycle, Deed, DeedsGoBeside, DoesPoints, effect, END, Ever, ever_by, EverValue, FillsNone, hand_behind, Hands, Heap, InHand, IsBeside, IsOf, IsReached, IsSince, Keeps, KnowsAtAnyTime, KnowsMarking, KnowsStacks, MarkFacts, Marking, MarkingAloneGoesBeside, MarksByMoves, Means, MeetsByDeed, named, ObjectsAreKnownBeside, Place, Processor, REGISTERS, Row, RowsAreWritten, SlotsAreReserved, StepsOn, takes, Task, TaskFacts, Together, Value, view, Words, WritesByMoves}
 use Rattle.gh_cycle.specs.Deeds as deed
 use Rattle.gh_cycle.specs.Opening.{reference_of}
 use Rattle.gh_heap.specs.Moves as heap
@@ -8,6 +8,7 @@ use Rattle.gh_marks.specs.Colours.{Placing}
 use Rattle.gh_marks.specs.Laws.{EachHandFollows, EachOwnMoveLeaves}
 use Rattle.gh_marks.specs.Moves as marks
 use Rattle.gh_mutator_writes.specs.Writing.{IsWritten, ProcessorWritesItsOwn, StacksAreNoted}
+use Rattle.gh_mutator_heap.proofs.Owning.Objects.{register_reached}
 use Rattle.gh_mutator_heap.proofs.Owning.Parked.{stands_always}
 
 pub record Known : Type 0 where
@@ -29,12 +30,24 @@ pub record Known : Type 0 where
 pub fills_none : (a : ℕ) (u : Marking) (hand : InHand) → hand.placing ≡ None → Hands a u hand → FillsNone a u
 fills_none a u hand none x o is = let some : hand.placing ≡ Some o = (x.has.is_reserved o).1 is in cc
 
+-- what a script reaches is of the cycle
+since_of : (z : Arena) (h : Heap) (u : Marking) → IsBeside z h u → (v : EverValue) → IsReached h.ever v → IsSince u.since (reference_of h.place v)
+since_of z h u beside EverValue.Nil reached o e = absurd (omega (arith, e))
+since_of z h u beside (EverValue.Int i) reached o e = absurd (omega (arith, e))
+since_of z h u beside (EverValue.Ref n) reached o e = let at : h.place n ≡ o = omega (arith, e) in subst (λ (x : ℕ). u.since x ≡ true) at (beside.reached n (reached n refl))
+
 -- The registers of the processor and those that marking reads name the same.
 same_name : (place : Place) (made : ℕ → ℕ) (v : EverValue) (w : Value) → Means place made v w → reference_of place v ≡ named w
 same_name place made v w h = grind arith
 
 some_name : (place : Place) (made : ℕ → ℕ) (v : EverValue) (r : ℕ) → Means place made v (Value.Ref r) → 1 ≤ r
 some_name place made v r h = grind arith
+
+-- these are what the values name
+record AreNamed (row : Row) (registers : List Value) : Type 0 where
+  pub whole : length registers ≡ REGISTERS
+  pub each : (d : ℕ) → d < length registers → row d ≡ named (slice_index_or registers d Value.Nil)
+  pub some : (d reference : ℕ) → d < length registers → slice_index_or registers d Value.Nil ≡ Value.Ref reference → 1 ≤ reference
 
 -- the goroutine goes on
 abbrev pub EndsNone : Deed → Type 0
@@ -82,11 +95,23 @@ module _ (k : Known) (z : Cycle) (a : ℕ) (h : Heap) (s : Marking) (m : Process
 
   -- What is known of its stacks behind a step that leaves their words, by what is known of the heap.
   module _ (u : Marking) (beside : IsBeside z.arena heap_then u) (goes : (g : ℕ) → IsOf z.arena a g → u.words (Cell.Scanned g) ≢ END → heap_then.ever.ended g ≡ false) where
-    values : (g : ℕ) → IsOf z.arena a g → u.words (Cell.Scanned g) ≢ END → AreRegisters (u.registers g) (slice_index_or processor_then.poll.local.stacks g [])
-    values g its on = grind (arith, same_name, some_name, stands)
+    named_so : (g : ℕ) → IsOf z.arena a g → u.words (Cell.Scanned g) ≢ END → AreNamed (u.registers g) (slice_index_or processor_then.poll.local.stacks g [])
+    named_so g its on = grind (arith, same_name, some_name, stands)
+
+    values : (g : ℕ) → IsOf z.arena a g → u.words (Cell.Scanned g) ≢ END → AreRegisters u.extents.base (u.registers g) (slice_index_or processor_then.poll.local.stacks g [])
+    values g its on = let so = named_so g its on in record {
+      whole = so.whole;
+      each = λ d few. so.each d few ∙ sym (marks.seen_is u.extents.base beside.base (named (slice_index_or (slice_index_or processor_then.poll.local.stacks g []) d Value.Nil)));
+      some = so.some;
+    }
+
+    since_so : (g : ℕ) → IsOf z.arena a g → u.words (Cell.Scanned g) ≢ END → (d : ℕ) → d < length (slice_index_or processor_then.poll.local.stacks g []) → IsSince u.since (u.registers g d)
+    since_so g its on d few =
+        let low : d < REGISTERS = subst (λ (n : ℕ). d < n) (named_so g its on).whole few in
+        subst (λ (v : ℕ). IsSince u.since v) (sym (beside.registers g d its.0 low (goes g its on))) (since_of z.arena heap_then u beside (heap_then.ever.register g d) (register_reached heap_then.ever g d (goes g its on) (heap_then.ever.register g d) refl))
 
     pub stacks_by : ((g : ℕ) → IsOf z.arena a g → slice_index_or processor_then.poll.local.scanned g 0 ≡ u.words (Cell.Scanned g)) → KnowsStacks z a u processor_then.poll.local.stacks processor_then.poll.local.scanned
-    stacks_by noted = record { own = t.facts.stacks.own; registers = values; noted = noted; places = places }
+    stacks_by noted = record { own = t.facts.stacks.own; registers = values; since = since_so; noted = noted; places = places }
 
   module _ (u : Marking) (beside : IsBeside z.arena heap_then u) (spares : (g number : ℕ) → asks z.arena.layout m ≢ Ask.Store (Cell.Scanned g) number) (ends : (g : ℕ) → heap_then.ever.ended g ≡ h.ever.ended g) where
     unwritten : (g : ℕ) → IsWritten z.arena.layout m (Cell.Scanned g) → ⊥

@@ -1,6 +1,6 @@
 -- Steps of a poll, of a wait and of a leave beside marking: they are made of moves of marking alone. No slot is being filled, and the registers stay.
 use Rattle.std.proofs.Common.{◌≡◌, ◌≢◌, ℕ, ◌<◌, Bool, true, false, cond, is_some, List, [], Option, Some, None, refl, sym, ap, subst, ◌∙◌, arith, slice_index, slice_index_or}
-use Rattle.gh_mutator_heap.proofs.Vocabulary.{acted, acting, acts, after_gc, after_leave, after_poll, Answer, asks, at_task, Cell, cell_of, Cycle, END, Ever, FillsNone, Heap, Held, Layout, Leaving, MarkFacts, Marking, named, only_polls, Op, Polling, PollStage, PollStageFacts, Processor, read_after_set, REGISTERS, Resumed, RunPhase, Shape, StepsOn, takes, Task, TaskFacts, Together, Value, view, Wait, Waiting, WaitStage, WaitStageFacts, WaitState, Wanted, Words}
+use Rattle.gh_mutator_heap.proofs.Vocabulary.{acted, acting, acts, after_gc, after_leave, after_poll, Answer, asks, at_task, Cell, cell_of, Cycle, END, Ever, FillsNone, Heap, Held, Layout, Leaving, MarkFacts, Marking, named, only_polls, Op, Polling, PollStage, PollStageFacts, Processor, read_after_set, REGISTERS, Resumed, Row, RunPhase, seen_word, Shape, StepsOn, takes, Task, TaskFacts, Together, Value, view, Wait, Waiting, WaitStage, WaitStageFacts, WaitState, Wanted, Words}
 use Rattle.gh_heap.specs.Moves as heap
 use Rattle.gh_marks.specs.Moves as marks
 use Rattle.gh_phase.specs.Listing as resume
@@ -63,6 +63,15 @@ module _ (z : Cycle) where
 pub acted_same : (shapes : List Shape) (e : Ever) (o : Op) → acted shapes e (acting true o false) ≡ e → (b : Bool) → acted shapes e (acting b o false) ≡ e
 acted_same shapes e o is b = grind arith
 
+-- no move changes in which object a heap word lies
+base_moved : (z : Cycle) (a : ℕ) (s : Marking) (m : marks.Move) → (marks.moved z a s m).extents.base ≡ s.extents.base
+base_moved z a s (marks.Place o size pointer noscan g d) = refl
+base_moved z a s _ = refl
+
+bases_stay : (z : Cycle) (a : ℕ) (s u : Marking) → marks.Went z a s u → u.extents.base ≡ s.extents.base
+bases_stay z a s u marks.stays = refl
+bases_stay z a s u (marks.goes t m went may) = base_moved z a t m ∙ bases_stay z a s t went
+
 -- The step, of a processor that only polls.
 module _ (k : Known) (z : Cycle) (a : ℕ) (h : Heap) (s : Marking) (m : Processor) (pending : Option Answer) (t : Together z a h s m pending) (l : StepOf z a h m pending) where
   abbrev then : Processor
@@ -86,7 +95,10 @@ module _ (k : Known) (z : Cycle) (a : ℕ) (h : Heap) (s : Marking) (m : Process
     registers g d runs low =
         let was = t.facts.stacks.registers g runs.of (goes_on k z a h s m pending t l g runs) in
         let now = facts.stacks.registers g runs.of (on g runs) in
-        now.each d (subst (λ (n : ℕ). d < n) (sym now.whole) low) ∙ ap (λ (rows : List (List Value)). named (slice_index_or (slice_index_or rows g []) d Value.Nil)) leaves.stacks ∙ sym (was.each d (subst (λ (n : ℕ). d < n) (sym was.whole) low))
+        now.each d (subst (λ (n : ℕ). d < n) (sym now.whole) low)
+        ∙ ap (λ (base : Row). seen_word base (named (slice_index_or (slice_index_or then.poll.local.stacks g []) d Value.Nil))) (bases_stay z a s land.then land.went)
+        ∙ ap (λ (rows : List (List Value)). seen_word s.extents.base (named (slice_index_or (slice_index_or rows g []) d Value.Nil))) leaves.stacks
+        ∙ sym (was.each d (subst (λ (n : ℕ). d < n) (sym was.whole) low))
 
 -- By tasks.
 module _ (z : Cycle) (a : ℕ) (u : Marking) (m : Processor) where

@@ -1,7 +1,7 @@
 -- Steps of a store beside marking. A pointer is written behind the barrier; without it a number alone is.
 use Rattle.std.proofs.Common.{◌≡◌, ℕ, ◌+◌, ◌*◌, ◌%◌, ◌<◌, Bool, true, false, cond, Option, Some, None, inr, refl, sym, ap, subst, ◌∙◌, arith}
 use Rattle.std.proofs.lemmas.Bool.{lt-ltb}
-use Rattle.gh_mutator_heap.proofs.Vocabulary.{acted, acting, Answer, applied, Ask, at_task, BehindBarrier, Cell, Cycle, ends, Ever, EverValue, Facts, Fault, fits, goes_on, has_field, Heap, held_then, holding_only, Holds, is_number_value, is_pointer_by, IsBetween, IsClean, keeping, Keeps, kinds_differ, KnowsAtAnyTime, Mark, mark_words, MarkFacts, Marking, MayWrite, Means, Name, names, nothing, pointer_cell_at, PointerCell, PointerWrite, points, Processor, Puts, Reach, register_of, size_for, stacks_last, Step, StepsOn, Store, store_answer, Stores, stores, stores_value, StoreStage, Task, Together, Value, view, with_field, word_of_value, Words, WriteStage, written}
+use Rattle.gh_mutator_heap.proofs.Vocabulary.{acted, acting, Answer, applied, Ask, at_task, BehindBarrier, Cell, Cycle, ends, Ever, EverValue, Facts, Fault, fits, goes_on, has_field, Heap, held_then, holding_only, Holds, is_number_value, is_pointer_by, IsBetween, IsClean, keeping, Keeps, kinds_differ, KnowsAtAnyTime, Mark, MarkFacts, Marking, MayWrite, Means, Name, names, nothing, pointer_cell_at, PointerCell, PointerWrite, points, Processor, Puts, Reach, register_of, seen_word, size_for, stacks_last, Step, StepsOn, Store, store_answer, Stores, stores, stores_value, StoreStage, Task, Together, Value, view, with_field, word_of_value, Words, WriteStage, written}
 use Rattle.gh_barrier.specs.Giving as write_on
 use Rattle.gh_barrier.specs.Listing as write
 use Rattle.gh_model.specs.Ever.{from_register}
@@ -197,14 +197,14 @@ module _ (k : Known) (x : Store) (w : PointerWrite) (z : Cycle) (a : ℕ) (h : H
     abbrev fact : Stores z.arena a (view h) (at_stage x (StoreStage.Writing wrote)) pending
     fact = t.fine.task.0
 
-    barrier : BehindBarrier s (s.words (write.cell_at w.at)) word
+    barrier : BehindBarrier s (seen_word s.extents.base (s.words (write.cell_at w.at))) (seen_word s.extents.base word)
     barrier = k.writes.stores z a s nothing wrote refl t.facts.task_is.writes
 
     cell_is : write.cell_at w.at ≡ Cell.Field (h.place fact.n + x.k)
     cell_is = ap write.cell_at t.fine.task.3.same_cell ∙ ap Cell.Field (cell_there k x z a h s m pending (StoreStage.Writing wrote) t fact t.fine.task.1 t.fine.task.2 t.fine.knows.stands)
 
-    old : IsClean (mark_words s.words) (h.words (Cell.Field (h.place fact.n + x.k)))
-    old = subst (λ (i : ℕ). IsClean (mark_words s.words) i) (ap s.words cell_is ∙ ap (λ (v : Words). v (Cell.Field (h.place fact.n + x.k))) t.beside.words) barrier.old
+    old : IsClean s.colour (seen_word s.extents.base (h.words (Cell.Field (h.place fact.n + x.k))))
+    old = subst (λ (i : ℕ). IsClean s.colour (seen_word s.extents.base i)) (ap s.words cell_is ∙ ap (λ (v : Words). v (Cell.Field (h.place fact.n + x.k))) t.beside.words) barrier.old
 
     puts : StepsOn z a (heap_then k z a h s it pending t l) s (processor_then k z a h s it pending t l)
     puts = by_deed k z a h s it pending t l (Puts fact.n x.k (h.ever.register x.g x.v) word) tt (then_is k x z a h s m pending (StoreStage.Writing wrote) t fact t.fine.task.1 t.fine.task.2 t.fine.knows.stands) (

@@ -47,7 +47,7 @@ module _ (k : Known) (z : Cycle) (a : ℕ) (h : Heap) (s : Marking) (shapes : Sh
       let is = means.0 in
       let some : eqb r 0 ≡ false = ne_eqb r 0 (λ q. omega (arith, is, q)) in
       let at : r - 1 ≡ h.place n = omega (arith, is) in
-      rw some (omega (arith, is), ap s.since at ∙ beside.reached n (reached n refl))
+      rw some (omega (arith, is), ap s.since (beside.base (r - 1) ∙ at) ∙ beside.reached n (reached n refl))
 
   pub write_begins : (p : Polling) (at : PointerCell) (y : Value) → IsCell s at → IsKnownPointer s (pointer_of y) → HasTwo p.local.held → IsBetween z a s p.local → IsWriting z a s p.local (written p.local at y)
   write_begins p at y there known two b = record {

@@ -39,6 +39,7 @@ module _ (z : Cycle) (a : ℕ) (s : Shared) (g : ℕ) (stacks : List (List Value
   stacks_scanned = record {
     own = f.own;
     registers = λ h mine on. f.registers h mine (on_before h on);
+    since = λ h mine on. f.since h mine (on_before h on);
     noted = noted_then;
     places = rw (length-set notes g z.number) f.places;
   }

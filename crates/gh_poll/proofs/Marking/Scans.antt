@@ -1,7 +1,10 @@
 -- While marking is on, each step of the scan of a stack with its shading is made of moves that its seat may make; the last makes the stack black.
-use Rattle.std.proofs.Common.{◌≡◌, ◌≢◌, ℕ, ◌+◌, ◌-◌, ◌*◌, ◌<◌, ◌≤◌, true, List, Option, Some, None, refl, sym, ap, subst, ◌∙◌, arith}
+use Rattle.std.proofs.Common.{◌≡◌, ◌≢◌, ℕ, suc, ◌+◌, ◌-◌, ◌*◌, ◌<◌, ◌≤◌, true, List, [], ◌∷◌, length, drop, Option, Some, None, refl, sym, ap, subst, ◌∙◌, arith, slice_index_or}
+use Rattle.std.proofs.lemmas.List.{get_or-drop, length-drop}
 use Rattle.std.proofs.Math.Nat.{mod-eq_of_lt}
 use Rattle.gh_poll.proofs.Vocabulary.{by_wish, Cell, cell_of, Cycle, effect, END, goes_on, Good, Hands, Held, holding_only, IsOf, Keeps, KnowsObject, KnowsObjects, landing, LooksForRoom, MarkStackStage, moved, nothing, Others, pending, reference_in, ScanFacts, ScanStack, ScanStageFacts, Shaded, ShadesWish, Shared, StackMarking, StackStage, Steps, Value}
+use Rattle.gh_marks.specs.Colours.{IsMarked, seen_word}
+use Rattle.gh_marks.specs.Moves.{seen_some}
 use Rattle.gh_shade.specs.Facts as shade_facts
 use Rattle.gh_shade.specs.Listing as shade
 use Rattle.gh_stack.specs.Facts as stack_facts
@@ -17,9 +20,27 @@ use Rattle.gh_poll.proofs.StackMarking.{begins_going, told_going, waits_then}
 stores_at : (stage : StackStage) → goes_on stage ≡ true → stack.wish_of stage ≡ None → stage ≡ StackStage.Store
 stores_at stage e f = grind arith
 
--- a register names what the scan wishes, and did so before
-named_by : (s : Shared) (g : ℕ) (stage : StackStage) (reference : ℕ) → stack.wish_of stage ≡ Some reference → stack_facts.StageFacts s g stage → (register : ℕ) × (s.registers g register ≡ reference)
-named_by s g stage reference e f = grind arith
+-- what a scan wishes is one of the values from there on
+wished : (i : ℕ) (values : List Value) (reference : ℕ) → stack.wish_of (stack.first_reference i values) ≡ Some reference → (n : ℕ) × (n < length values) × (slice_index_or values n Value.Nil ≡ Value.Ref reference)
+wished i [] reference e = absurd (cc)
+wished i (Value.Ref r ∷ values) reference e = (0, omega arith, let is : r ≡ reference = cc in ap (λ (x : ℕ). Value.Ref x) is)
+wished i (Value.Nil ∷ values) reference e = let h = wished (i + 1) values reference e in (suc h.0, (let few = h.1 in omega (arith, few)), h.2)
+wished i (Value.Int v ∷ values) reference e = let h = wished (i + 1) values reference e in (suc h.0, (let few = h.1 in omega (arith, few)), h.2)
+
+-- and so of those of the scan
+wished_from : (i : ℕ) (registers : List Value) (reference : ℕ) → stack.wish_of (stack.shade_stage_from registers i) ≡ Some reference → (d : ℕ) × (d < length registers) × (slice_index_or registers d Value.Nil ≡ Value.Ref reference)
+wished_from i registers reference e =
+    let h = wished i (drop i registers) reference e in
+    (i + h.0, (let few = h.1 in omega (arith, few, length-drop i registers)), sym (get_or-drop i registers h.0 Value.Nil) ∙ h.2)
+
+-- it has looked from this register on
+abbrev LooksFrom : stack.StackScan → (i : ℕ) → Type 0
+LooksFrom m i = m.stage ≡ stack.shade_stage_from m.registers i
+
+told_from : (registers : List Value) (stage : StackStage) (reference : ℕ) → stack.wish_of stage ≡ Some reference → (i : ℕ) × (stack.after_shade registers stage ≡ stack.shade_stage_from registers i)
+told_from registers (StackStage.Shade register own) reference e = (register + 1, refl)
+told_from registers StackStage.Store reference e = absurd (cc)
+told_from registers StackStage.Ended reference e = absurd (cc)
 
 -- What a step comes to, by what it gives: the facts of the next stage, or a black stack.
 pub record Scanned (z : Cycle) (a : ℕ) (s t : Shared) (g : ℕ) (held : Option Held) : Type 0 where
@@ -34,32 +55,33 @@ Comes z a s t g m (Some x) = Scanned z a s t g m.held
 
 module _ (k : Known) (z : Cycle) (a : ℕ) (s : Shared) (good : Good z s) (objects : KnowsObjects z s) where
   -- what it wishes lies in the heap
-  wish_is : (t : Shared) (m : stack.StackScan) (reference : ℕ) → Keeps z a s t → stack_facts.Facts z a t m → 1 ≤ reference → stack.wish_of m.stage ≡ Some reference → reference_in z.arena.layout reference ≡ reference
-  wish_is t m reference kept f some wish =
-      let by = named_by t m.goroutine m.stage reference wish f.stage_is in
+  wish_is : (m : stack.StackScan) (i reference : ℕ) → stack_facts.AreRegisters s.extents.base (s.registers m.goroutine) m.registers → LooksFrom m i → 1 ≤ reference → stack.wish_of m.stage ≡ Some reference → reference_in z.arena.layout reference ≡ reference
+  wish_is m i reference are from some wish =
+      let by = wished_from i m.registers reference (ap stack.wish_of (sym from) ∙ wish) in
+      let names : s.registers m.goroutine by.0 ≡ s.extents.base (reference - 1) + 1 = are.each by.0 by.1 ∙ ap (λ (v : Value). seen_word s.extents.base (stack_facts.named v)) by.2 ∙ seen_some s.extents.base reference some in
+      let known : s.since (s.extents.base (reference - 1)) ≡ true = good.values.stacks m.goroutine by.0 (s.extents.base (reference - 1)) names in
+      let there : KnowsObject z.arena.layout.pages _ _ s.extents (s.extents.base (reference - 1)) = objects (s.extents.base (reference - 1)) known in
+      let whole : reference - 1 ≡ s.extents.base (reference - 1) = there.base_is (reference - 1) refl in
+      let within : reference - 1 < 1024 * z.arena.layout.pages = omega (arith, there.within, there.some, whole) in
       let is : reference ≡ (reference - 1) + 1 = omega arith in
-      let names : s.registers m.goroutine by.0 ≡ (reference - 1) + 1 = sym (kept.registers m.goroutine by.0 f.own) ∙ by.1 ∙ is in
-      let known : s.since (reference - 1) ≡ true = good.values.stacks m.goroutine by.0 (reference - 1) names in
-      let there : KnowsObject z.arena.layout.pages _ _ s.extents (reference - 1) = objects (reference - 1) known in
-      let within : reference - 1 < 1024 * z.arena.layout.pages = omega (arith, there.within, there.some) in
       ap (λ (n : ℕ). n + 1) (mod-eq_of_lt within) ∙ sym is
 
-  wishes : (t : Shared) (m : stack.StackScan) (held : Option Held) → Good z t → Keeps z a s t → stack_facts.Facts z a t m → Hands a t (holding_only held) → (wish : Option ℕ) → goes_on m.stage ≡ true → stack.wish_of m.stage ≡ wish → ScanStageFacts z a t held m (by_wish z.arena.layout held wish)
-  wishes t m held well kept f hands None on wish = (f, stores_at m.stage on wish, hands)
-  wishes t m held well kept f hands (Some reference) on wish =
+  wishes : (t : Shared) (m : stack.StackScan) (i : ℕ) (held : Option Held) → Good z t → stack_facts.AreRegisters s.extents.base (s.registers m.goroutine) m.registers → LooksFrom m i → stack_facts.Facts z a t m → Hands a t (holding_only held) → (wish : Option ℕ) → goes_on m.stage ≡ true → stack.wish_of m.stage ≡ wish → ScanStageFacts z a t held m (by_wish z.arena.layout held wish)
+  wishes t m i held well are from f hands None on wish = (f, stores_at m.stage on wish, hands)
+  wishes t m i held well are from f hands (Some reference) on wish =
       let known = k.stacks.wishes z a t m reference well f wish in
-      let same : reference_in z.arena.layout reference ≡ reference = wish_is t m reference kept f known.some wish in
-      (record { scans = f; wish = wish ∙ ap (λ (r : ℕ). Some r) (sym same) }, k.shade.begins z a t nothing (reference_in z.arena.layout reference) held (rw same known.some) (ap (λ (r : ℕ). t.since (r - 1)) same ∙ known.known) hands)
+      let same : reference_in z.arena.layout reference ≡ reference = wish_is m i reference are from known.some wish in
+      (record { scans = f; wish = wish ∙ ap (λ (r : ℕ). Some r) (sym same) }, k.shade.begins z a t nothing (reference_in z.arena.layout reference) held (rw same known.some) (ap (λ (r : ℕ). t.since (t.extents.base (r - 1))) same ∙ known.known) hands)
 
   -- where it begins, in this very state
-  pub scan_begins : (seat g cycle : ℕ) (registers : List Value) (held : Option Held) → seat ≡ a → cycle ≡ z.number → stack_facts.Begins z a s g → stack_facts.AreRegisters (s.registers g) registers → Hands a s (holding_only held) → ScanFacts z a s g (opening z.arena.layout seat g cycle registers held)
+  pub scan_begins : (seat g cycle : ℕ) (registers : List Value) (held : Option Held) → seat ≡ a → cycle ≡ z.number → stack_facts.Begins z a s g → stack_facts.AreRegisters s.extents.base (s.registers g) registers → Hands a s (holding_only held) → ScanFacts z a s g (opening z.arena.layout seat g cycle registers held)
   scan_begins seat g cycle registers held seat_is number may are hands = record {
     seat_is = seat_is;
     of = refl;
-    stage_is = wishes s (stack.opening g cycle registers) held good ((k.go_on z a).stays s) facts hands (stack.wish_of (stack.opening g cycle registers).stage) (begins_going g cycle registers) refl;
+    stage_is = wishes s (stack.opening g cycle registers) 0 held good are refl facts hands (stack.wish_of (stack.opening g cycle registers).stage) (begins_going g cycle registers) refl;
   } where
     facts : stack_facts.Facts z a s (stack.opening g cycle registers)
-    facts = subst (λ (c : ℕ). stack_facts.Facts z a s (stack.opening g c registers)) (sym number) (k.stacks.begins z a s g registers may are)
+    facts = subst (λ (c : ℕ). stack_facts.Facts z a s (stack.opening g c registers)) (sym number) (k.stacks.begins z a s g registers good may are)
 
   module _ (g : ℕ) (m : StackMarking) (seat_is : m.seat ≡ a) (of : m.scan.goroutine ≡ g) where
     shaded_then : (t : Shared) (sh : shade.Shading) (n : ℕ) → Good z t → Keeps z a s t → ShadesWish z a s m.scan sh.reference → (out : Option Shaded) → shade.gives sh n ≡ out → shade_facts.Facts z a t nothing (shade.goes sh n) → ScanFacts z a t g (after_shade z.arena.layout m (shade.goes sh n) out)
@@ -71,11 +93,12 @@ module _ (k : Known) (z : Cycle) (a : ℕ) (s : Shared) (good : Good z s) (objec
     shaded_then t sh n well kept w (Some Shaded.Done) e f =
         let ended : shade_facts.ObjectIsShaded a t nothing (shade.goes sh n) = k.shade.ends z a t nothing sh n e f in
         let wish : stack.wish_of m.scan.stage ≡ Some (shade.goes sh n).reference = w.wish ∙ ap (λ (r : ℕ). Some r) (sym (k.shade.same sh n)) in
-        let told : stack_facts.Facts z a t (stack.told_shaded m.scan) = k.stacks.told z a t m.scan (shade.goes sh n).reference (k.stacks.lasts z a s t m.scan kept w.scans) wish ended.marked in
+        let told : stack_facts.Facts z a t (stack.told_shaded m.scan) = k.stacks.told z a t m.scan (shade.goes sh n).reference (k.stacks.lasts z a s t m.scan kept w.scans) wish (subst (λ (x : ℕ). IsMarked t.colour x) (sym ended.marked.base) ended.marked.colour) in
+        let from = told_from m.scan.registers m.scan.stage sh.reference w.wish in
         record {
           seat_is = seat_is;
           of = of;
-          stage_is = wishes t (stack.told_shaded m.scan) (shade.goes sh n).held well kept told ended.hands (stack.wish_of (stack.told_shaded m.scan).stage) (told_going m.scan (waits_then m.scan.stage (shade.goes sh n).reference wish)) refl;
+          stage_is = wishes t (stack.told_shaded m.scan) from.0 (shade.goes sh n).held well w.scans.registers_are from.1 told ended.hands (stack.wish_of (stack.told_shaded m.scan).stage) (told_going m.scan (waits_then m.scan.stage (shade.goes sh n).reference wish)) refl;
         }
     shaded_then t sh n well kept w (Some Shaded.WantsRoom) e f =
         let waits : shade_facts.WaitsForRoom a t nothing (shade.goes sh n) = k.shade.wants z a t nothing sh n e f in
@@ -105,7 +128,7 @@ module _ (k : Known) (z : Cycle) (a : ℕ) (s : Shared) (good : Good z s) (objec
 
     -- the search for room
     found_then : (t : Shared) (sh : shade.Shading) (r : room.RoomFinding) (n : ℕ) → Keeps z a s t → ShadesWish z a s m.scan sh.reference → LooksForRoom s sh.reference → (out : Option Held) → room.gives z.arena.layout r n ≡ out → buffer_facts.RoomFacts z a s (pending sh.reference) r → buffer_facts.RoomFacts z a t (pending sh.reference) (room.goes z.arena.layout r n) → ScanFacts z a t g (after_room m sh (room.goes z.arena.layout r n) out)
-    found_then t sh r n kept w looks out e was f = grind arith
+    found_then t sh r n kept w looks out e was f = grind (arith, k.shade.shaded z a s t (shade.object_of sh.reference) kept looks.marked)
 
     finds : (sh : shade.Shading) (r : room.RoomFinding) → ShadesWish z a s m.scan sh.reference → LooksForRoom s sh.reference → buffer_facts.RoomFacts z a s (pending sh.reference) r → Leads (FindRoom sh r)
     finds sh r w looks f =
@@ -130,7 +153,7 @@ wish_lasts k z a s t m reference o w = record { scans = k.stacks.lasts z a s t m
 
 stage_lasts : (k : Known) (z : Cycle) (a : ℕ) (s t : Shared) (held : Option Held) (m : stack.StackScan) (p : MarkStackStage) → Others z a s t → ScanStageFacts z a s held m p → ScanStageFacts z a t held m p
 stage_lasts k z a s t held m (Shading sh) o x = (wish_lasts k z a s t m sh.reference o x.0, k.shade.keeps.lasts z a s t nothing sh o x.1)
-stage_lasts k z a s t held m (FindRoom sh r) o x = (wish_lasts k z a s t m sh.reference o x.0, record { some = x.1.some; marked = o.keeps.marks (shade.object_of sh.reference) x.1.marked }, k.buffers.finds.lasts z a s t (pending sh.reference) r o x.2)
+stage_lasts k z a s t held m (FindRoom sh r) o x = (wish_lasts k z a s t m sh.reference o x.0, record { some = x.1.some; marked = k.shade.shaded z a s t (shade.object_of sh.reference) o.keeps x.1.marked }, k.buffers.finds.lasts z a s t (pending sh.reference) r o x.2)
 stage_lasts k z a s t held m Store o x = (k.stacks.lasts z a s t m o.keeps x.0, x.1, k.last z a s t (holding_only held) o x.2)
 stage_lasts k z a s t held m Ended o x = x
 
