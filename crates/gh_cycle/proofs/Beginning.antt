@@ -40,35 +40,35 @@ module _ (z : Arena) (h : Heap) (g : Good z (view h)) (b : IsBounded z h.ever) (
   pub is-made : (n : Name) → Reach h.ever n → IsMade h.ever.made n
   is-made = made z h.ever b
 
-  -- what a pointer field of an object of the cycle names is one, in any state of marking of this heap
-  pub fields-since : (s : Marking) → IsCycleOf z h s → (o k : ℕ) → s.since o ≡ true → IsPointer s.extents o k → IsSince s.since (h.words (Cell.Field (o + k)))
-  fields-since s c o k known = let w = (c.since o).0 known in subst (λ (a : ℕ). IsPointer s.extents a k → IsSince s.since (h.words (Cell.Field (a + k)))) w.2 (at w.0 w.1) where
-    at : (n : Name) → Reach h.ever n → IsPointer s.extents (h.place n) k → IsSince s.since (h.words (Cell.Field (h.place n + k)))
+  -- what a pointer field of a known object names is known, in any state of marking of this heap
+  pub fields-known : (s : Marking) → IsCycleOf z h s → (o k : ℕ) → s.known o ≡ true → IsPointer s.extents o k → IsSince s.known (h.words (Cell.Field (o + k)))
+  fields-known s c o k is = let w = (c.known o).0 is in subst (λ (a : ℕ). IsPointer s.extents a k → IsSince s.known (h.words (Cell.Field (a + k)))) w.2 (at w.0 w.1) where
+    at : (n : Name) → Reach h.ever n → IsPointer s.extents (h.place n) k → IsSince s.known (h.words (Cell.Field (h.place n + k)))
     at n r l x is =
         let within : k < size_for z.shapes h.ever.type_of n = subst (λ (i : ℕ). k < i) (c.size n r) l.0 in
         let pointer : points z.shapes h.ever.type_of n k ≡ true = sym (c.pointer n k r within) ∙ l.1 in
         let holds = subst (λ (t : Bool). Holds h.place h.ever.made t (h.ever.field n k) (h.words (Cell.Field (h.place n + k)))) pointer (g.fields n k (is-made n r) (g.reached n r) within) in
         let m = names-it h.place h.ever.made (h.ever.field n k) (h.words (Cell.Field (h.place n + k))) x holds is in
-        (c.since x).1 (m.0, from_field n k m.0 r m.1, m.2)
+        (c.known x).1 (m.0, from_field n k m.0 r m.1, m.2)
 
-  pub globals-since : (s : Marking) → IsCycleOf z h s → (i : ℕ) → i < z.layout.globals → IsSince s.since (h.words (Cell.Global i))
-  globals-since s c i l x is =
+  pub globals-known : (s : Marking) → IsCycleOf z h s → (i : ℕ) → i < z.layout.globals → IsSince s.known (h.words (Cell.Global i))
+  globals-known s c i l x is =
       let m = names-it h.place h.ever.made (h.ever.global i) (h.words (Cell.Global i)) x (g.globals i l) is in
-      (c.since x).1 (m.0, from_global i m.0 m.1, m.2)
+      (c.known x).1 (m.0, from_global i m.0 m.1, m.2)
 
-  pub registers-since : (s : Marking) → IsCycleOf z h s → (j d : ℕ) → IsSince s.since (register_for_marking h j d)
-  registers-since s c j d x = by (h.ever.ended j) refl where
-    by : (t : Bool) → h.ever.ended j ≡ t → cond t 0 (reference_of h.place (h.ever.register j d)) ≡ x + 1 → s.since x ≡ true
+  pub registers-known : (s : Marking) → IsCycleOf z h s → (j d : ℕ) → IsSince s.known (register_for_marking h j d)
+  registers-known s c j d x = by (h.ever.ended j) refl where
+    by : (t : Bool) → h.ever.ended j ≡ t → cond t 0 (reference_of h.place (h.ever.register j d)) ≡ x + 1 → s.known x ≡ true
     by true e is = absurd (omega (arith, is))
     by false e is =
         let m = names-reference h.place (h.ever.register j d) x is in
-        (c.since x).1 (m.0, from_register j d m.0 e m.1, m.2)
+        (c.known x).1 (m.0, from_register j d m.0 e m.1, m.2)
 
 module _ (z : Cycle) (h : Heap) (g : Good z.arena (view h)) (b : IsBounded z.arena h.ever) (rest : WordsAreAtRest z.arena z.number h) (made : TheReachedWereMade) (apart : TheHeapIsApart) (d : Decided (IsReachedAt h)) where
   no-name : Name
   no-name = record { g = 0; k = 0 }
 
-  -- the name of the object of the cycle that is placed there
+  -- the name of the known object that is placed there
   name-by : (o : ℕ) (t : Bool) → d.test o ≡ t → Name
   name-by o true e = ((d.tells o).0 e).0
   name-by o false e = no-name
@@ -99,6 +99,7 @@ module _ (z : Cycle) (h : Heap) (g : Good z.arena (view h)) (b : IsBounded z.are
     filled = λ i. 0;
     progress = λ i. Untouched;
     passed = λ a. false;
+    known = d.test;
     since = d.test;
     extents = extents;
   }
@@ -110,13 +111,13 @@ module _ (z : Cycle) (h : Heap) (g : Good z.arena (view h)) (b : IsBounded z.are
   globals : (i : ℕ) → IsSince d.test (h.words (Cell.Global i))
   globals i x is = by (ltb i z.arena.layout.globals) refl where
     by : (t : Bool) → ltb i z.arena.layout.globals ≡ t → d.test x ≡ true
-    by true e = globals-since z.arena h g b made marking of-heap i (ltb-true _ _ e) x is
+    by true e = globals-known z.arena h g b made marking of-heap i (ltb-true _ _ e) x is
     by false e = absurd (omega (arith, rest.none i (ltb-false _ _ e), is))
 
   ended : (j c : ℕ) → h.words (Cell.Scanned j) ≡ END → register_for_marking h j c ≡ 0
   ended j c e = rw (rest.over j e) refl
 
-  -- each object of the cycle has a slot, and that lies in the heap
+  -- each known object has a slot, and that lies in the heap
   abbrev InHeap : (o size : ℕ) → Type 0
   InHeap o size = (o < 1024 * z.arena.layout.pages) × (size ≤ 1024 * z.arena.layout.pages)
 
@@ -151,9 +152,11 @@ module _ (z : Cycle) (h : Heap) (g : Good z.arena (view h)) (b : IsBounded z.are
     sizes = λ o known. let w = (d.tells o).0 known in subst (λ (a : ℕ). extents.size a ≤ 1024 * z.arena.layout.pages) w.2 (subst (λ (m : ℕ). m ≤ 1024 * z.arena.layout.pages) (sym (of-heap.size w.0 w.1)) (in-heap w.0 w.1).1);
     placed = λ o known. let w = (d.tells o).0 known in subst (λ (a : ℕ). row_bit (alloc_words h.words) a ≡ 1) w.2 (g.reached w.0 w.1).set;
     bases = λ o known. refl;
-    fields = λ o k known l. seen-since d.test (λ x. x) (λ x. refl) (h.words (Cell.Field (o + k))) (fields-since z.arena h g b made marking of-heap o k known l);
+    of_cycle = λ o is. is;
+    known_fields = λ o k known l. seen-since d.test (λ x. x) (λ x. refl) (h.words (Cell.Field (o + k))) (fields-known z.arena h g b made marking of-heap o k known l);
+    fields = λ o k known l. seen-since d.test (λ x. x) (λ x. refl) (h.words (Cell.Field (o + k))) (fields-known z.arena h g b made marking of-heap o k known l);
     globals = λ i. seen-since d.test (λ x. x) (λ x. refl) (h.words (Cell.Global i)) (globals i);
-    registers = registers-since z.arena h g b made marking of-heap;
+    registers = registers-known z.arena h g b made marking of-heap;
   }
 
   opened : IsOpened z h

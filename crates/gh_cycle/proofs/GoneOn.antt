@@ -15,7 +15,7 @@ cycles-begin-so apart were_made z h s good bounds c = record {
   made = λ n made. made;
   lost = λ n made none reached. none reached;
   of_cycle = λ n o made.
-      let w = (c.since (h.place n)).0 o.since in
+      let w = (c.known (h.place n)).0 (sym (c.since (h.place n)) ∙ o.since) in
       subst (λ (m : Name). Reach h.ever m) ((apart z.arena (view h) good).once w.0 n (were_made z.arena h.ever bounds w.0 w.1) made (good.reached w.0 w.1) o.placed w.2) w.1;
 }
 

@@ -82,5 +82,5 @@ pub objects-known-beside : LeastSlot → TheHeapIsApart → ObjectsAreKnownBesid
 objects-known-beside least apart z h s g m c =
     subst (λ (u : Words). Good z.arena (view (with_words h u)) → IsBeside z.arena (with_words h u) s → KnowsObjects z s) c.words
     (λ good beside. known-all least apart z.arena (here h s) s good refl (λ o since.
-    let n = name-at z h s good m o since in
+    let n = name-at z h s good m o (m.objects.of_cycle o since) in
     subst (Known least apart z.arena (here h s) s good) n.at (known-at least apart z.arena (here h s) s good n.name n.of.made n.of.placed (said-beside z.arena (here h s) s beside n.name n.of)))) g c

@@ -58,7 +58,7 @@ module _ (z : Cycle) (h : Heap) (s : Marking) (g : Good z.arena (view h)) (fit :
 
 pub reached-marked-beside : TheReachedWereMade → TheReachedAreMarkedBeside
 reached-marked-beside made z h s g fit b c each n r =
-    each (h.place n) (path z h s g fit b c.words c.base (λ m reached. said-beside z.arena h s c m (record { made = made z.arena h.ever b m reached; placed = g.reached m reached; since = c.reached m reached })) c.registers made n r)
+    each (h.place n) (path z h s g fit b c.words c.base (λ m reached. said-beside z.arena h s c m (record { made = made z.arena h.ever b m reached; placed = g.reached m reached; known = c.known m reached })) c.registers made n r)
 
 -- so it is of the cycle
 pub marked-since : (z : Cycle) (s : Marking) → MarkingGood z s → ((o a : ℕ) → s.colour o ≢ Placing a) → (o : ℕ) → HasMark (mark_words s.words) o → s.since o ≡ true
@@ -68,4 +68,4 @@ marked-since z s g none o marked = grind arith
 pub marked-stand : TheMarkedStand
 marked-stand z h s g same none x set =
     let since : s.since x ≡ true = marked-since z s g none x (ap (λ (w : Words). row_bit (mark_words w) x) same ∙ set) in
-    ap (λ (w : Words). row_bit (alloc_words w) x) (sym same) ∙ g.objects.placed x since
+    ap (λ (w : Words). row_bit (alloc_words w) x) (sym same) ∙ g.objects.placed x (g.objects.of_cycle x since)

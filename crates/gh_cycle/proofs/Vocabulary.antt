@@ -12,7 +12,7 @@ pub use Rattle.gh_base.specs.declared.pack.SpanHead.{SpanHead}
 pub use Rattle.gh_base.specs.declared.shape.Shape.{Shape}
 pub use Rattle.gh_class.specs.Classes.{IsSizeClass, slot_of, slots_of}
 pub use Rattle.gh_class.specs.declared.class.SizeClass.{SizeClass}
-pub use Rattle.gh_cycle.specs.Beside.{ClaimedFieldsAreAside, ClaimsSlot, CyclesBeginBeside, FillsNone, IsBeside, IsOfCycle, MarkingAloneGoesBeside, MarksAlone, ObjectsAreKnownBeside, SlotsAreReserved, TheMarkedStand, TheReachedAreMarkedBeside}
+pub use Rattle.gh_cycle.specs.Beside.{ClaimedFieldsAreAside, ClaimsSlot, CyclesBeginBeside, FillsNone, IsBeside, IsKnownObject, IsOfCycle, MarkingAloneGoesBeside, MarksAlone, ObjectsAreKnownBeside, SlotsAreReserved, TheMarkedStand, TheReachedAreMarkedBeside}
 pub use Rattle.gh_cycle.specs.Deeds.{ComesBy, Deed, DeedsGoBeside, from_nil, from_number, hand_behind, MeetsByDeed, StepsBeside, TakesFrom}
 pub use Rattle.gh_cycle.specs.Known.{KnownOfMoves}
 pub use Rattle.gh_cycle.specs.Marked.{OpenedRegistersFit, RegistersFit}

@@ -9,6 +9,12 @@ use Rattle.gh_cycle.specs.Marked.{RegistersFit}
 use Rattle.gh_cycle.specs.Opening.{IsCycleOf, RegistersAre, WordsAreAtRest}
 use Rattle.gh_cycle.specs.Reached.{IsBounded}
 
+-- the object was made, stands, and is known
+pub record IsKnownObject (h : Heap) (s : Marking) (n : Name) : Type 0 where
+  pub made : IsMade h.ever.made n
+  pub placed : Placed (alloc_words h.words) (birth_words h.words) h.place n
+  pub known : s.known (h.place n) ≡ true
+
 -- the object was made, stands, and is one of the cycle
 pub record IsOfCycle (h : Heap) (s : Marking) (n : Name) : Type 0 where
   pub made : IsMade h.ever.made n
@@ -20,15 +26,16 @@ pub record ClaimsSlot (z : Arena) (v : View) (a at : ℕ) : Type 0 where
   pub size : ℕ
   pub claim : Claims z v a at size
 
--- The state of marking is one of this heap, whatever processors do meanwhile. The words are the same. What a script reaches is of the cycle: more may be, since a script may lose what it reached when the cycle began. Each object of the cycle has the words of its type, those of objects that were made since among them. A slot whose mark is set before its object is made is claimed by who fills it.
+-- The state of marking is one of this heap, whatever processors do meanwhile. The words are the same. What a script reaches is of the cycle, and known: more may be, since a script may lose what it reached when the cycle began. Each object that is known has the words of its type, those that were made since among them. A slot whose mark is set before its object is made is claimed by who fills it.
 pub record IsBeside (z : Arena) (h : Heap) (s : Marking) : Type 0 where
   pub words : s.words ≡ h.words
   pub reached : (n : Name) → Reach h.ever n → s.since (h.place n) ≡ true
+  pub known : (n : Name) → Reach h.ever n → s.known (h.place n) ≡ true
   -- an object is named by its first word alone
   pub base : (x : ℕ) → s.extents.base x ≡ x
-  pub size : (n : Name) → IsOfCycle h s n → s.extents.size (h.place n) ≡ size_for z.shapes h.ever.type_of n
-  pub pointer : (n : Name) (k : ℕ) → IsOfCycle h s n → k < size_for z.shapes h.ever.type_of n → s.extents.pointer (h.place n) k ≡ points z.shapes h.ever.type_of n k
-  pub noscan : (n : Name) → IsOfCycle h s n → s.extents.noscan (h.place n) ≡ (shape_for z.shapes h.ever.type_of n).noscan
+  pub size : (n : Name) → IsKnownObject h s n → s.extents.size (h.place n) ≡ size_for z.shapes h.ever.type_of n
+  pub pointer : (n : Name) (k : ℕ) → IsKnownObject h s n → k < size_for z.shapes h.ever.type_of n → s.extents.pointer (h.place n) k ≡ points z.shapes h.ever.type_of n k
+  pub noscan : (n : Name) → IsKnownObject h s n → s.extents.noscan (h.place n) ≡ (shape_for z.shapes h.ever.type_of n).noscan
   pub filling : (o a : ℕ) → s.colour o ≡ Placing a → ClaimsSlot z (view h) a o
   pub registers : RegistersFit z h s
   -- the word of a stack says that its goroutine has ended only where it has
@@ -52,7 +59,7 @@ FillsNone a s = (o : ℕ) → s.colour o ≢ Placing a
 abbrev pub SlotsAreReserved : Type 0
 SlotsAreReserved = (z : Cycle) (a at size : ℕ) (h : Heap) (s : Marking) → Good z.arena (view h) → MarkingGood z s → IsBeside z.arena h s → Claims z.arena (view h) a at size → FillsNone a s → marks.May z a s (marks.Reserve at) × IsBeside z.arena (record h { words = (marks.moved z a s (marks.Reserve at)).words }) (marks.moved z a s (marks.Reserve at))
 
--- A field of a claimed slot is none that marking reads: no object of the cycle has a word there.
+-- A field of a claimed slot is none that marking reads: no object that is known has a word there.
 abbrev pub ClaimedFieldsAreAside : Type 0
 ClaimedFieldsAreAside = (z : Cycle) (a at size k : ℕ) (h : Heap) (s : Marking) → Good z.arena (view h) → MarkingGood z s → IsBeside z.arena h s → Claims z.arena (view h) a at size → k < size → marks.IsQuietInMarking s (Ask.Store (Cell.Field (at + k)) 0)
 

@@ -18,10 +18,12 @@ pub record WordsAreAtRest (z : Arena) (number : ℕ) (h : Heap) : Type 0 where
 abbrev pub OpenedHeapsAreAtRest : Type 0
 OpenedHeapsAreAtRest = (z : Arena) (trigger number : ℕ) (h : Heap) → 0 < number → h.words ≡ opening_words trigger → WordsAreAtRest z number h
 
--- A state of marking is that of this heap: the words are the same, and the objects of the cycle are those that a script reaches, each with the words of its type.
+-- A state of marking is that of this heap: the words are the same, and what is known is what a script reaches, each object with the words of its type.
 pub record IsCycleOf (z : Arena) (h : Heap) (s : Marking) : Type 0 where
   pub words : s.words ≡ h.words
-  pub since : (o : ℕ) → (s.since o ≡ true) ↔ IsReachedAt h o
+  pub known : (o : ℕ) → (s.known o ≡ true) ↔ IsReachedAt h o
+  -- Nothing brings an object back, so the objects of the cycle are all that is known. This clause alone says so.
+  pub since : (o : ℕ) → s.since o ≡ s.known o
   -- an object is named by its first word alone
   pub base : (x : ℕ) → s.extents.base x ≡ x
   pub size : (n : Name) → Reach h.ever n → s.extents.size (h.place n) ≡ size_for z.shapes h.ever.type_of n

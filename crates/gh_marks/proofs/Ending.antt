@@ -1,6 +1,6 @@
 -- The end of marking: what the coordinator finds, and that what is dead is white.
 use Rattle.std.proofs.Common.{◌≡◌, ℕ, zero, suc, ◌+◌, ◌%◌, ◌<◌, ◌≤◌, Bool, true, false, arith, refl, sym, ◌∙◌, ap, inl, inr, Some, None}
-use Rattle.gh_marks.proofs.Vocabulary.{bit, Black, buffer_of, Buffered, Cell, Claimed, ClaimOf, Colour, Cycle, EachMoveLeavesTheDead, ENTRIES, eqb_tells, Good, holder_in, IsDead, IsFoundAtTheEnd, IsGrey, mark_words, May, Move, moved, nat_tests, NoClaim, Pending, Place, Placing, Progress, Quiet, Read, ReadOf, row_bit, RowsAreWritten, Scanned, seats_among, seats_of, Shared, Taken, TheCursorIsSmall, TheDeadAreWhite, Untouched, WhatIsFoundIsDone, White}
+use Rattle.gh_marks.proofs.Vocabulary.{alloc_words, bit, Black, buffer_of, Buffered, Cell, Claimed, ClaimOf, Colour, Cycle, EachMoveLeavesTheDead, ENTRIES, eqb_tells, Good, holder_in, IsFoundAtTheEnd, IsGrey, mark_words, May, Move, moved, nat_tests, NoClaim, Pending, Place, Placing, Progress, Quiet, Read, ReadOf, row_bit, RowsAreWritten, Scanned, seats_among, seats_of, Shared, Taken, TheCursorIsSmall, TheDeadAreWhite, Untouched, WhatIsFoundIsDone, White}
 use Rattle.gh_marks.proofs.Bits.{alloc-other}
 use Rattle.gh_marks.proofs.Quiet.{ReadRows, Unread, unread}
 
@@ -63,24 +63,33 @@ dead-white z s g o h = go (s.colour o) refl where
   go : (c : Colour) → s.colour o ≡ c → row_bit (mark_words s.words) o ≡ 0
   go c e = grind arith
 
-module _ (k : RowsAreWritten) (z : Cycle) (a : ℕ) (s : Shared) (g : Good z s) (o : ℕ) (h : IsDead s o) where
-  dead-place : (p size : ℕ) (pointer : ℕ → Bool) (noscan : Bool) (f d : ℕ) → May z a s (Place p size pointer noscan f d) → IsDead (moved z a s (Place p size pointer noscan f d)) o
-  dead-place p size pointer noscan f d may = elim (eqb_tells p o) [
-    | inl y ↦ absurd (g.objects.placing p a may.reserved (rw (y.1) h.placed))
-    | inr n ↦ record { placed = alloc-other k s.words p o n.1 ∙ h.placed; dead = rw (n.0) h.dead }
+-- What is placed stays so, and is no more known or of the cycle than before: an object is made in an empty slot.
+module _ (k : RowsAreWritten) (z : Cycle) (a : ℕ) (s : Shared) (g : Good z s) (o : ℕ) (placed : row_bit (alloc_words s.words) o ≡ 1) where
+  record StaysPlaced (t : Shared) : Type 0 where
+    stands : row_bit (alloc_words t.words) o ≡ 1
+    since : t.since o ≡ s.since o
+    known : t.known o ≡ s.known o
+
+  placed-place : (p size : ℕ) (pointer : ℕ → Bool) (noscan : Bool) (f d : ℕ) → May z a s (Place p size pointer noscan f d) → StaysPlaced (moved z a s (Place p size pointer noscan f d))
+  placed-place p size pointer noscan f d may = elim (eqb_tells p o) [
+    | inl y ↦ absurd (g.objects.placing p a may.reserved (rw (y.1) placed))
+    | inr n ↦ record { stands = alloc-other k s.words p o n.1 ∙ placed; since = rw (n.0) refl; known = rw (n.0) refl }
   ]
 
-  dead-quiet : (step : _) → May z a s (Quiet step) → IsDead (moved z a s (Quiet step)) o
-  dead-quiet step may = let u : Unread s (moved z a s (Quiet step)).words = unread s step may in
-      record { placed = ap (λ (r : ReadRows). row_bit r.alloc o) u.rows_are ∙ h.placed; dead = h.dead }
+  placed-quiet : (step : _) → May z a s (Quiet step) → StaysPlaced (moved z a s (Quiet step))
+  placed-quiet step may = let u : Unread s (moved z a s (Quiet step)).words = unread s step may in
+      record { stands = ap (λ (r : ReadRows). row_bit r.alloc o) u.rows_are ∙ placed; since = refl; known = refl }
 
-  dead-moved : (m : Move) → May z a s m → IsDead (moved z a s m) o
-  dead-moved (Quiet step) may = dead-quiet step may
-  dead-moved (Place p size pointer noscan f d) may = dead-place p size pointer noscan f d may
-  dead-moved _ may = record { placed = h.placed; dead = h.dead }
+  stays-placed : (m : Move) → May z a s m → StaysPlaced (moved z a s m)
+  stays-placed (Quiet step) may = placed-quiet step may
+  stays-placed (Place p size pointer noscan f d) may = placed-place p size pointer noscan f d may
+  stays-placed _ may = record { stands = placed; since = refl; known = refl }
 
 pub each-move-leaves-the-dead : RowsAreWritten → EachMoveLeavesTheDead
-each-move-leaves-the-dead k z a s m g may o h = dead-moved k z a s g o h m may
+each-move-leaves-the-dead k z a s m g may o = (
+  (λ h. let x = stays-placed k z a s g o h.placed m may in record { placed = x.stands; dead = x.since ∙ h.dead }),
+  (λ h. let x = stays-placed k z a s g o h.placed m may in record { placed = x.stands; unknown = x.known ∙ h.unknown }),
+)
 
 -- The cursor is at most as many behind the last global as there are seats.
 count-few : (passed : ℕ → Bool) (n : ℕ) → seats_among passed n ≤ n

@@ -4,19 +4,20 @@ use Rattle.gh_marks.proofs.Vocabulary.{Buffered, Colour, CursorGood, END, Entrie
 use Rattle.gh_marks.proofs.Bits.{clean-grows}
 
 -- an object takes another colour
-pub objects-coloured : (alloc : Row) (colour : ℕ → Colour) (since : ℕ → Bool) (e : Extents) (o : ℕ) (c : Colour) → (IsShaded c → since o ≡ true) → (IsGrey c → e.noscan o ≡ false) → ((a : ℕ) → c ≡ Placing a → row_bit alloc o ≢ 1) →
-    ObjectsGood alloc colour since e → ObjectsGood alloc (update colour o c) since e
-objects-coloured alloc colour since e o c a b d g = record {
+pub objects-coloured : (alloc : Row) (colour : ℕ → Colour) (known since : ℕ → Bool) (e : Extents) (o : ℕ) (c : Colour) → (IsShaded c → since o ≡ true) → (IsGrey c → e.noscan o ≡ false) → ((a : ℕ) → c ≡ Placing a → row_bit alloc o ≢ 1) →
+    ObjectsGood alloc colour known since e → ObjectsGood alloc (update colour o c) known since e
+objects-coloured alloc colour known since e o c a b d g = record {
   placed = g.placed;
   bases = g.bases;
+  of_cycle = g.of_cycle;
   shaded = λ p h. elim (eqb_tells o p) [ inl y ↦ rw (← y.1) (a (rw (y.0) at h)) | inr n ↦ g.shaded p (rw (n.0) at h) ];
   grey = λ p h. elim (eqb_tells o p) [ inl y ↦ rw (← y.1) (b (rw (y.0) at h)) | inr n ↦ g.grey p (rw (n.0) at h) ];
   placing = λ p x h. elim (eqb_tells o p) [ inl y ↦ rw (← y.1) (d x (rw (y.0) at h)) | inr n ↦ g.placing p x (rw (n.0) at h) ];
 }
 
 -- that of a shaded object of the cycle
-pub objects-shaded : (alloc : Row) (colour : ℕ → Colour) (since : ℕ → Bool) (e : Extents) (o : ℕ) (c : Colour) → since o ≡ true → IsShaded c → (IsGrey c → e.noscan o ≡ false) → ObjectsGood alloc colour since e → ObjectsGood alloc (update colour o c) since e
-objects-shaded alloc colour since e o c known h b g = grind (arith, objects-coloured)
+pub objects-shaded : (alloc : Row) (colour : ℕ → Colour) (known since : ℕ → Bool) (e : Extents) (o : ℕ) (c : Colour) → since o ≡ true → IsShaded c → (IsGrey c → e.noscan o ≡ false) → ObjectsGood alloc colour known since e → ObjectsGood alloc (update colour o c) known since e
+objects-shaded alloc colour known since e o c of h b g = grind (arith, objects-coloured)
 
 -- the entries, where an object moves that is in no buffer, and will be in none
 pub entries-apart : (entries : ℕ → Row) (filled : Row) (colour : ℕ → Colour) (o : ℕ) (c : Colour) → ((b j : ℕ) → colour o ≢ Buffered b j) → ((b j : ℕ) → c ≢ Buffered b j) → EntriesGood entries filled colour → EntriesGood entries filled (update colour o c)
@@ -35,13 +36,14 @@ cursor-grows globals gcur global progress m n grow g = record {
 }
 
 -- a register takes what is of the cycle
-pub values-set : (e : Extents) (field global : Row) (registers : ℕ → Row) (since : ℕ → Bool) (h d v : ℕ) → IsSince since v → ValuesGood e field global registers since → ValuesGood e field global (update_at registers h d v) since
-values-set e field global registers since h d v known g = record {
+pub values-set : (e : Extents) (field global : Row) (registers : ℕ → Row) (known since : ℕ → Bool) (h d v : ℕ) → IsSince since v → ValuesGood e field global registers known since → ValuesGood e field global (update_at registers h d v) known since
+values-set e field global registers known since h d v of g = record {
+  known_fields = g.known_fields;
   fields = g.fields;
   globals = g.globals;
   stacks = λ f q o e. elim (eqb_tells h f) [
     | inr n ↦ g.stacks f q o (rw (n.0) at e)
-    | inl y ↦ elim (eqb_tells d q) [ inr n ↦ g.stacks f q o (rw (y.0, n.0) at e) | inl w ↦ known o (rw (y.0, w.0) at e) ]
+    | inl y ↦ elim (eqb_tells d q) [ inr n ↦ g.stacks f q o (rw (y.0, n.0) at e) | inl w ↦ of o (rw (y.0, w.0) at e) ]
   ];
 }
 

@@ -68,11 +68,12 @@ hands-last z a s t h o x = record {
 
 -- each step
 pub steps-go : EachMoveKeeps → EachMoveLeaves → EachMoveLeavesTheDead → EachStepGoesByMoves
-steps-go keep leave dead z a s t g stays = record { good = g; others = λ b ne. others-same z b s; dead = λ o h. h }
+steps-go keep leave dead z a s t g stays = record { good = g; others = λ b ne. others-same z b s; dead = λ o h. h; unknown = λ o h. h }
 steps-go keep leave dead z a s t g (goes u m w may) = further (steps-go keep leave dead z a s u g w) where
   further : StepsGoByMoves z a s u → StepsGoByMoves z a s (moved z a u m)
   further x = record {
     good = keep z a u m x.good may;
     others = λ b ne. others-then z b s u (moved z a u m) (x.others b ne) (leave z b a u m ne x.good may);
-    dead = λ o h. dead z a u m x.good may o (x.dead o h);
+    dead = λ o h. (dead z a u m x.good may o).0 (x.dead o h);
+    unknown = λ o h. (dead z a u m x.good may o).1 (x.unknown o h);
   }

@@ -17,9 +17,11 @@ record WordsKept (since : ℕ → Bool) (e : Extents) (colour colour_then : ℕ 
   pub fields : (o k : ℕ) → since o ≡ true → IsPointer e o k → (field_then (o + k) ≡ field (o + k)) ⊎ IsClean colour_then (field_then (o + k))
   pub globals : (i : ℕ) → (global_then i ≡ global i) ⊎ IsClean colour_then (global_then i)
 
-record ObjectsKept (since since_then : ℕ → Bool) (e f : Extents) : Type 0 where
+record ObjectsKept (known known_then since since_then : ℕ → Bool) (e f : Extents) : Type 0 where
+  pub knowns : (o : ℕ) → known o ≡ true → known_then o ≡ true
   pub sinces : (o : ℕ) → since o ≡ true → since_then o ≡ true
   pub extents : (o : ℕ) → since o ≡ true → SameExtent e f o
+  pub known_extents : (o : ℕ) → known o ≡ true → SameExtent e f o
   pub bases : (x : ℕ) → since (e.base x) ≡ true → f.base x ≡ e.base x
 
 record StacksKept (z : Cycle) (a : ℕ) (registers registers_then : ℕ → Row) (scanned scanned_then : Row) : Type 0 where
@@ -43,7 +45,7 @@ module _ (z : Cycle) (a : ℕ) (s t : Shared) where
   Words = WordsKept s.since s.extents s.colour t.colour (mark_words s.words) (seen_row s.extents.base (field_words s.words)) (seen_row s.extents.base (global_words s.words)) (mark_words t.words) (seen_row t.extents.base (field_words t.words)) (seen_row t.extents.base (global_words t.words))
 
   abbrev Objects : Type 0
-  Objects = ObjectsKept s.since t.since s.extents t.extents
+  Objects = ObjectsKept s.known t.known s.since t.since s.extents t.extents
 
   abbrev Stacks : Type 0
   Stacks = StacksKept z a s.registers t.registers (scanned_words s.words) (scanned_words t.words)
@@ -79,7 +81,7 @@ module _ (z : Cycle) (a : ℕ) (s : Shared) where
   words-coloured o c h = record { marks = λ p m. m; colours = colours-grow s.colour o c h; fields = λ p k i l. inl refl; globals = λ i. inl refl }
 
   objects-same : Objects z a s s
-  objects-same = record { sinces = λ o h. h; extents = λ o h. same-extent s.extents o; bases = λ x h. refl }
+  objects-same = record { knowns = λ o h. h; sinces = λ o h. h; extents = λ o h. same-extent s.extents o; known_extents = λ o h. same-extent s.extents o; bases = λ x h. refl }
 
   stacks-same : Stacks z a s s
   stacks-same = record { each_register = λ g d own. refl; each_stack = λ g own. refl }
@@ -136,7 +138,7 @@ module _ (k : RowsAreWritten) (z : Cycle) (a c : ℕ) (s : Shared) (g : Good z s
         (record {
           marks = subst (λ (r : ReadRows). (o : ℕ) → HasMark (mark_words s.words) o → HasMark r.mark o) (sym u.rows_are) (λ o h. h);
           colours = λ o h. h;
-          fields = λ o j i l. inl (ap (seen_word s.extents.base) (u.fields o j i l));
+          fields = λ o j i l. inl (ap (seen_word s.extents.base) (u.fields o j (g.objects.of_cycle o i) l));
           globals = λ i. inl (ap (λ (r : ReadRows). seen_word s.extents.base (r.global i)) u.rows_are);
         })
         (objects-same z a s)

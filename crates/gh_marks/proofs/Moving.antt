@@ -31,11 +31,12 @@ module _ (know : Known) (z : Cycle) (a : ℕ) (s : Shared) (g : Good z s) where
   pub good-quiet : (step : _) → Kept (Quiet step)
   good-quiet step may = record {
     marks = subst (λ (r : ReadRows). MarksGood r.mark s.colour) (sym u.rows_are) g.marks;
-    objects = subst (λ (r : ReadRows). ObjectsGood r.alloc s.colour s.since s.extents) (sym u.rows_are) g.objects;
+    objects = subst (λ (r : ReadRows). ObjectsGood r.alloc s.colour s.known s.since s.extents) (sym u.rows_are) g.objects;
     counts = subst (λ (r : ReadRows). AreCounted (record { words = r.buffer; entries = r.entry; filled = s.filled })) (sym u.rows_are) g.counts;
     entries = subst (λ (r : ReadRows). EntriesGood r.entry s.filled s.colour) (sym u.rows_are) g.entries;
     values = record {
-      fields = λ o k i l p e. g.values.fields o k i l p (sym (ap (seen_word s.extents.base) (u.fields o k i l)) ∙ e);
+      known_fields = λ o k i l p e. g.values.known_fields o k i l p (sym (ap (seen_word s.extents.base) (u.fields o k i l)) ∙ e);
+      fields = λ o k i l p e. g.values.fields o k i l p (sym (ap (seen_word s.extents.base) (u.fields o k (g.objects.of_cycle o i) l)) ∙ e);
       globals = subst (λ (r : ReadRows). (i : ℕ) → IsSince s.since (seen_word s.extents.base (r.global i))) (sym u.rows_are) g.values.globals;
       stacks = g.values.stacks;
     };
@@ -51,7 +52,7 @@ module _ (know : Known) (z : Cycle) (a : ℕ) (s : Shared) (g : Good z s) where
   cursor-coloured o c h = cursor-grows z.arena.layout.globals (s.words Cell.Gcur) (seen_row s.extents.base (global_words s.words)) s.progress s.colour (update s.colour o c) (colours-grow s.colour o c h) g.cursor
 
   -- a mark bit is set
-  set : (o : ℕ) (c : Colour) → s.colour o ≡ White → mark_of c ≡ 1 → ((b j : ℕ) → c ≢ Buffered b j) → ObjectsGood (alloc_words s.words) (update s.colour o c) s.since s.extents →
+  set : (o : ℕ) (c : Colour) → s.colour o ≡ White → mark_of c ≡ 1 → ((b j : ℕ) → c ≢ Buffered b j) → ObjectsGood (alloc_words s.words) (update s.colour o c) s.known s.since s.extents →
       ((room : ℕ) → IsPictured z (record s { words = set_mark s.words o; colour = update s.colour o c }) room) → Good z (record s { words = set_mark s.words o; colour = update s.colour o c })
   set o c white one nb objects pictured = record {
     marks = marked-set know.rows s.words o s.colour c one g.marks;
@@ -75,15 +76,15 @@ module _ (know : Known) (z : Cycle) (a : ℕ) (s : Shared) (g : Good z s) where
 
   pub good-shade : (o : ℕ) → Kept (Shade o)
   good-shade o may = set o (Pending a) (white-of o may.0) refl (λ b j e. cc)
-      (objects-shaded (alloc_words s.words) s.colour s.since s.extents o (Pending a) may.0.since tt (λ h. may.1) g.objects) (pictured (Shade o) may)
+      (objects-shaded (alloc_words s.words) s.colour s.known s.since s.extents o (Pending a) may.0.since tt (λ h. may.1) g.objects) (pictured (Shade o) may)
 
   pub good-flat : (o : ℕ) → Kept (ShadeFlat o)
   good-flat o may = set o Black (white-of o may.0) refl (λ b j e. cc)
-      (objects-shaded (alloc_words s.words) s.colour s.since s.extents o Black may.0.since tt (λ h. absurd h) g.objects) (pictured (ShadeFlat o) may)
+      (objects-shaded (alloc_words s.words) s.colour s.known s.since s.extents o Black may.0.since tt (λ h. absurd h) g.objects) (pictured (ShadeFlat o) may)
 
   pub good-reserve : (o : ℕ) → Kept (Reserve o)
   good-reserve o may = set o (Placing a) may.white refl (λ b j e. cc)
-      (objects-coloured (alloc_words s.words) s.colour s.since s.extents o (Placing a) (λ h. absurd h) (λ h. absurd h) (λ c e. may.empty) g.objects) (pictured (Reserve o) may)
+      (objects-coloured (alloc_words s.words) s.colour s.known s.since s.extents o (Placing a) (λ h. absurd h) (λ h. absurd h) (λ c e. may.empty) g.objects) (pictured (Reserve o) may)
 
   pub good-again : (o : ℕ) → Kept (ShadeAgain o)
   good-again o may = record {
@@ -107,7 +108,7 @@ module _ (know : Known) (z : Cycle) (a : ℕ) (s : Shared) (g : Good z s) where
   pub good-enter : (b o : ℕ) → Kept (Enter b o)
   good-enter b o may = record {
     marks = marked-again (mark_words s.words) s.colour o (Buffered b (s.filled b)) (rw (may.pending) refl) g.marks;
-    objects = objects-shaded (alloc_words s.words) s.colour s.since s.extents o (Buffered b (s.filled b)) (g.objects.shaded o (rw (may.pending) tt)) tt (λ h. g.objects.grey o (rw (may.pending) tt)) g.objects;
+    objects = objects-shaded (alloc_words s.words) s.colour s.known s.since s.extents o (Buffered b (s.filled b)) (g.objects.shaded o (rw (may.pending) tt)) tt (λ h. g.objects.grey o (rw (may.pending) tt)) g.objects;
     counts = counts (holding.PutsEntry b (o + 1)) (may.held, may.room);
     entries = record {
       some = λ c k h. grind (arith, nat_tests, g.entries.some c k);
@@ -126,7 +127,7 @@ module _ (know : Known) (z : Cycle) (a : ℕ) (s : Shared) (g : Good z s) where
       let was : s.colour o ≡ Buffered b (s.filled b - 1) = g.entries.entered b (s.filled b - 1) o (omega (arith, may.some)) may.entry in
       record {
         marks = marked-again (mark_words s.words) s.colour o (Taken a) (rw was refl) g.marks;
-        objects = objects-shaded (alloc_words s.words) s.colour s.since s.extents o (Taken a) (g.objects.shaded o (rw was tt)) tt (λ h. g.objects.grey o (rw was tt)) g.objects;
+        objects = objects-shaded (alloc_words s.words) s.colour s.known s.since s.extents o (Taken a) (g.objects.shaded o (rw was tt)) tt (λ h. g.objects.grey o (rw was tt)) g.objects;
         counts = counts (holding.TakesEntry b) (may.held, may.some);
         entries = record {
           some = λ c k h. grind (arith, nat_tests, g.entries.some c k);
@@ -143,7 +144,7 @@ module _ (know : Known) (z : Cycle) (a : ℕ) (s : Shared) (g : Good z s) where
   pub good-blacken : (o : ℕ) → Kept (Blacken o)
   good-blacken o may = record {
     marks = marked-again (mark_words s.words) s.colour o Black (rw (may.0) refl) g.marks;
-    objects = objects-shaded (alloc_words s.words) s.colour s.since s.extents o Black (g.objects.shaded o (rw (may.0) tt)) tt (λ h. absurd h) g.objects;
+    objects = objects-shaded (alloc_words s.words) s.colour s.known s.since s.extents o Black (g.objects.shaded o (rw (may.0) tt)) tt (λ h. absurd h) g.objects;
     counts = g.counts;
     entries = entries-apart (entry_words s.words) s.filled s.colour o Black (λ b j e. taken-buffered (sym may.0 ∙ e)) (λ b j e. cc) g.entries;
     values = g.values;
@@ -162,6 +163,7 @@ module _ (know : Known) (z : Cycle) (a : ℕ) (s : Shared) (g : Good z s) where
     counts = g.counts;
     entries = g.entries;
     values = record {
+      known_fields = λ p j h l q e. elim (eqb_tells x (p + j)) [ inr n ↦ g.values.known_fields p j h l q (rw (n.0) at e) | inl y ↦ g.objects.of_cycle q (may.since q (rw (y.0) at e)) ];
       fields = λ p j h l q e. elim (eqb_tells x (p + j)) [ inr n ↦ g.values.fields p j h l q (rw (n.0) at e) | inl y ↦ may.since q (rw (y.0) at e) ];
       globals = g.values.globals;
       stacks = g.values.stacks;
@@ -179,6 +181,7 @@ module _ (know : Known) (z : Cycle) (a : ℕ) (s : Shared) (g : Good z s) where
     counts = g.counts;
     entries = g.entries;
     values = record {
+      known_fields = g.values.known_fields;
       fields = g.values.fields;
       globals = λ j q e. elim (eqb_tells i j) [ inr n ↦ g.values.globals j q (rw (n.0) at e) | inl y ↦ may.since q (rw (y.0) at e) ];
       stacks = g.values.stacks;

@@ -98,7 +98,7 @@ module _ (know : Known) (z : Cycle) (a : ℕ) (s : Shared) (g : Good z s) where
     objects = g.objects;
     counts = g.counts;
     entries = g.entries;
-    values = values-set s.extents (seen_row s.extents.base (field_words s.words)) (seen_row s.extents.base (global_words s.words)) s.registers s.since h d v may.since g.values;
+    values = values-set s.extents (seen_row s.extents.base (field_words s.words)) (seen_row s.extents.base (global_words s.words)) s.registers s.known s.since h d v may.since g.values;
     cursor = g.cursor;
     passes = g.passes;
     stacks = stacks-set z.number (scanned_words s.words) s.registers h d v may.goes_on g.stacks;
@@ -135,6 +135,7 @@ module _ (know : Known) (z : Cycle) (a : ℕ) (s : Shared) (g : Good z s) where
     counts = g.counts;
     entries = g.entries;
     values = record {
+      known_fields = g.values.known_fields;
       fields = g.values.fields;
       globals = g.values.globals;
       stacks = λ f q o e. elim (eqb_tells h f) [ inr n ↦ g.values.stacks f q o (rw (n.0) at e) | inl y ↦ absurd (nil-since o (rw (y.0) at e)) ];
@@ -148,8 +149,8 @@ module _ (know : Known) (z : Cycle) (a : ℕ) (s : Shared) (g : Good z s) where
     pictured = pictured know z a s g (EndStack h) may;
   }
 
-  since-grows : (o v : ℕ) → IsSince s.since v → IsSince (update s.since o true) v
-  since-grows o v h q e = elim (eqb_tells o q) [ inl y ↦ rw (y.0) refl | inr n ↦ rw (n.0) (h q e) ]
+  since-grows : (set : ℕ → Bool) (o v : ℕ) → IsSince set v → IsSince (update set o true) v
+  since-grows set o v h q e = elim (eqb_tells o q) [ inl y ↦ rw (y.0) refl | inr n ↦ rw (n.0) (h q e) ]
 
   good-place : (o size : ℕ) (pointer : ℕ → Bool) (noscan : Bool) (f d : ℕ) → Kept (Place o size pointer noscan f d)
   good-place o size pointer noscan f d may = record {
@@ -157,13 +158,14 @@ module _ (know : Known) (z : Cycle) (a : ℕ) (s : Shared) (g : Good z s) where
     objects = record {
       placed = λ p h. elim (eqb_tells o p) [ inl y ↦ rw (← y.1) (alloc-same know.rows s.words o) | inr n ↦ alloc-other know.rows s.words o p n.1 ∙ g.objects.placed p (rw (n.0) at h) ];
       bases = λ p h. elim (eqb_tells o p) [ inl y ↦ rw (← y.1) may.base | inr n ↦ g.objects.bases p (rw (n.0) at h) ];
+      of_cycle = λ p h. elim (eqb_tells o p) [ inl y ↦ rw (y.0) refl | inr n ↦ rw (n.0) (g.objects.of_cycle p (rw (n.0) at h)) ];
       shaded = λ p h. elim (eqb_tells o p) [ inl y ↦ rw (y.0) refl | inr n ↦ rw (n.0) (g.objects.shaded p (rw (n.0) at h)) ];
       grey = λ p h. elim (eqb_tells o p) [ inl y ↦ absurd (rw (y.0) at h) | inr n ↦ rw (n.0) (g.objects.grey p (rw (n.0) at h)) ];
       placing = λ p b h. elim (eqb_tells o p) [ inl y ↦ absurd (black-placing (rw (y.0) at h)) | inr n ↦ (λ e. g.objects.placing p b (rw (n.0) at h) (sym (alloc-other know.rows s.words o p n.1) ∙ e)) ];
     };
     counts = g.counts;
     entries = entries-apart (entry_words s.words) s.filled s.colour o Black (λ b j e. placing-buffered (sym may.reserved ∙ e)) (λ b j e. cc) g.entries;
-    values = values-set then.extents (seen_row s.extents.base (field_words s.words)) (seen_row s.extents.base (global_words s.words)) s.registers then.since f d (o + 1) since values;
+    values = values-set then.extents (seen_row s.extents.base (field_words s.words)) (seen_row s.extents.base (global_words s.words)) s.registers then.known then.since f d (o + 1) since values;
     cursor = cursor-coloured know z a s g o Black (λ h. cc);
     passes = g.passes;
     stacks = stacks-set z.number (scanned_words s.words) s.registers f d (o + 1) may.goes_on g.stacks;
@@ -191,14 +193,18 @@ module _ (know : Known) (z : Cycle) (a : ℕ) (s : Shared) (g : Good z s) where
     placing-buffered e = cc
 
     -- without the register that names it
-    values : ValuesGood then.extents (seen_row s.extents.base (field_words s.words)) (seen_row s.extents.base (global_words s.words)) s.registers then.since
+    values : ValuesGood then.extents (seen_row s.extents.base (field_words s.words)) (seen_row s.extents.base (global_words s.words)) s.registers then.known then.since
     values = record {
+      known_fields = λ p j h l q e. elim (eqb_tells o p) [
+        | inl y ↦ absurd (nil p j l y q e)
+        | inr n ↦ since-grows s.known o (seen_field s (p + j)) (g.values.known_fields p j (rw (n.0) at h) (rw (n.0) at l)) q e
+      ];
       fields = λ p j h l q e. elim (eqb_tells o p) [
         | inl y ↦ absurd (nil p j l y q e)
-        | inr n ↦ since-grows o (seen_field s (p + j)) (g.values.fields p j (rw (n.0) at h) (rw (n.0) at l)) q e
+        | inr n ↦ since-grows s.since o (seen_field s (p + j)) (g.values.fields p j (rw (n.0) at h) (rw (n.0) at l)) q e
       ];
-      globals = λ j. since-grows o (seen_global s j) (g.values.globals j);
-      stacks = λ h r. since-grows o (s.registers h r) (g.values.stacks h r);
+      globals = λ j. since-grows s.since o (seen_global s j) (g.values.globals j);
+      stacks = λ h r. since-grows s.since o (s.registers h r) (g.values.stacks h r);
     }
 
   good-moved : (m : Move) → Kept m

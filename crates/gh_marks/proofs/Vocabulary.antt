@@ -8,7 +8,7 @@ pub use Rattle.gh_marks.specs.Colours.{Black, Buffered, buffers_as_held, Claimed
 pub use Rattle.gh_marks.specs.Ends.{IsDone, IsFoundAtTheEnd, Opens, Reached}
 pub use Rattle.gh_marks.specs.Good.{CursorGood, EntriesGood, Good, MarksGood, ObjectsGood, PassesGood, seats_among, StacksGood, ValuesGood}
 pub use Rattle.gh_marks.specs.Laws.{EachFactLasts, EachHandFollows, EachHandLasts, EachMoveKeeps, EachMoveLeaves, EachMoveLeavesTheDead, EachStepGoesByMoves, MarkingBegins, MarkingEndsClean, MarksStayWords, StepsGoByMoves, TheCursorIsSmall, TheDeadAreWhite, WhatIsFoundIsDone}
-pub use Rattle.gh_marks.specs.Moves.{Blacken, ClaimGlobal, EndStack, Enter, from_field, from_nothing, from_register, GiveBuffer, goes, IsAside, IsDead, IsQuietInMarking, Keeps, LeavesStacks, May, MayBring, MayPlace, MayShade, Move, moved, Others, PassGlobals, Place, PutField, PutGlobal, Quiet, ReadGlobal, Reserve, SameExtent, ScanGlobal, ScanStack, set_alloc, set_mark, SetRegister, Shade, Shade as Shades, ShadeAgain, ShadeFlat, TakeBuffer, TakeEntry, Went, with_bit}
+pub use Rattle.gh_marks.specs.Moves.{Blacken, ClaimGlobal, EndStack, Enter, from_field, from_nothing, from_register, GiveBuffer, goes, IsAside, IsQuietInMarking, Keeps, LeavesStacks, May, MayBring, MayPlace, MayShade, Move, moved, Others, PassGlobals, Place, PutField, PutGlobal, Quiet, ReadGlobal, Reserve, SameExtent, ScanGlobal, ScanStack, set_alloc, set_mark, SetRegister, Shade, Shade as Shades, ShadeAgain, ShadeFlat, TakeBuffer, TakeEntry, Went, with_bit}
 pub use Rattle.gh_marks.specs.Picture.{BeginsDrawn, CyclesBeginDrawn, EachMoveIsDrawn, EachStepIsDrawn, IsDrawn, many, MarkingEndsDrawn, ThePictureSays, WhatThePictureSays}
 pub use Rattle.gh_marks.specs.Seats.{ClaimOf, Hands, Has, InHand, NoClaim, ReadOf}
 pub use Rattle.gh_marks.specs.Shows.{global_at, is_black_stack, is_scanned, IsPictured, Names, nothing, Numbers, object, pointer_at, shade_of, Shows}

@@ -49,7 +49,9 @@ pub record Shared : Type 0 where
   pub progress : ℕ → Progress
   -- which seats have raised the cursor past the last global
   pub passed : ℕ → Bool
-  -- placed and reached when the cycle began, or placed since
+  -- placed when the cycle began, and reached then or such that something may bring it back; or placed since
+  pub known : ℕ → Bool
+  -- those of them that were reached at some moment of the cycle. Nothing brings an object back, so these are all.
   pub since : ℕ → Bool
   pub extents : Extents
 

@@ -4,7 +4,7 @@ use Rattle.gh_marks.specs.Vocabulary.{alloc_words, buffer_of, Cell, END, holder_
 use Rattle.gh_marks.specs.Colours.{Cycle, HasMark, IsGrey, IsPointer, IsSince, Scanned, seen_field, seen_global, Shared, Untouched, White}
 use Rattle.gh_marks.specs.Seats.{Hands, nothing}
 
--- As marking is switched on: nothing is marked, in a buffer or scanned, and the objects of the cycle lie in the heap, are placed, and closed under what they, globals and registers name.
+-- As marking is switched on: nothing is marked, in a buffer or scanned. What is known lies in the heap, is placed, and is closed under what it names, and so are the objects of the cycle among them, with what globals and registers name.
 pub record Opens (z : Cycle) (s : Shared) : Type 0 where
   pub marks : (o : ℕ) → row_bit (mark_words s.words) o ≡ 0
   pub white : (o : ℕ) → s.colour o ≡ White
@@ -15,10 +15,12 @@ pub record Opens (z : Cycle) (s : Shared) : Type 0 where
   pub passed : (a : ℕ) → s.passed a ≡ false
   pub scanned : (g : ℕ) → (s.words (Cell.Scanned g) < z.number) ⊎ (s.words (Cell.Scanned g) ≡ END)
   pub over : (g d : ℕ) → s.words (Cell.Scanned g) ≡ END → s.registers g d ≡ 0
-  pub below : (o : ℕ) → s.since o ≡ true → o < 1024 * z.arena.layout.pages
-  pub sizes : (o : ℕ) → s.since o ≡ true → s.extents.size o ≤ 1024 * z.arena.layout.pages
-  pub placed : (o : ℕ) → s.since o ≡ true → row_bit (alloc_words s.words) o ≡ 1
-  pub bases : (o : ℕ) → s.since o ≡ true → s.extents.base o ≡ o
+  pub below : (o : ℕ) → s.known o ≡ true → o < 1024 * z.arena.layout.pages
+  pub sizes : (o : ℕ) → s.known o ≡ true → s.extents.size o ≤ 1024 * z.arena.layout.pages
+  pub placed : (o : ℕ) → s.known o ≡ true → row_bit (alloc_words s.words) o ≡ 1
+  pub bases : (o : ℕ) → s.known o ≡ true → s.extents.base o ≡ o
+  pub of_cycle : (o : ℕ) → s.since o ≡ true → s.known o ≡ true
+  pub known_fields : (o k : ℕ) → s.known o ≡ true → IsPointer s.extents o k → IsSince s.known (seen_field s (o + k))
   pub fields : (o k : ℕ) → s.since o ≡ true → IsPointer s.extents o k → IsSince s.since (seen_field s (o + k))
   pub globals : (i : ℕ) → IsSince s.since (seen_global s i)
   pub registers : (g d : ℕ) → IsSince s.since (s.registers g d)

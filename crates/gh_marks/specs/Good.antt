@@ -8,11 +8,12 @@ use Rattle.gh_marks.specs.Shows.{IsPictured}
 abbrev pub MarksGood : (mark : Row) → (ℕ → Colour) → Type 0
 MarksGood mark colour = (o : ℕ) → row_bit mark o ≡ mark_of (colour o)
 
--- The objects of the cycle are placed, and all that is shaded is one: so what was dead when the cycle began is never marked, and is freed after it.
-pub record ObjectsGood (alloc : Row) (colour : ℕ → Colour) (since : ℕ → Bool) (extents : Extents) : Type 0 where
-  pub placed : (o : ℕ) → since o ≡ true → row_bit alloc o ≡ 1
+-- What is known is placed, the objects of the cycle are known, and all that is shaded is one of the cycle: so what was dead when the cycle began is never marked, and is freed after it.
+pub record ObjectsGood (alloc : Row) (colour : ℕ → Colour) (known since : ℕ → Bool) (extents : Extents) : Type 0 where
+  pub placed : (o : ℕ) → known o ≡ true → row_bit alloc o ≡ 1
   -- and the first word of an object lies in it
-  pub bases : (o : ℕ) → since o ≡ true → extents.base o ≡ o
+  pub bases : (o : ℕ) → known o ≡ true → extents.base o ≡ o
+  pub of_cycle : (o : ℕ) → since o ≡ true → known o ≡ true
   pub shaded : (o : ℕ) → IsShaded (colour o) → since o ≡ true
   -- what is grey may have pointer fields: an object without is done with its mark
   pub grey : (o : ℕ) → IsGrey (colour o) → extents.noscan o ≡ false
@@ -25,8 +26,9 @@ pub record EntriesGood (entries : ℕ → Row) (filled : Row) (colour : ℕ → 
   pub entered : (b j o : ℕ) → j < filled b → entries b j ≡ o + 1 → colour o ≡ Buffered b j
   pub buffered : (o b j : ℕ) → colour o ≡ Buffered b j → (j < filled b) × (entries b j ≡ o + 1)
 
--- What objects of the cycle, globals and registers name is of the cycle: so paths never leave it.
-pub record ValuesGood (extents : Extents) (field global : Row) (registers : ℕ → Row) (since : ℕ → Bool) : Type 0 where
+-- What objects of the cycle, globals and registers name is of the cycle: so paths never leave it. And what is known names what is known.
+pub record ValuesGood (extents : Extents) (field global : Row) (registers : ℕ → Row) (known since : ℕ → Bool) : Type 0 where
+  pub known_fields : (o k : ℕ) → known o ≡ true → IsPointer extents o k → IsSince known (field (o + k))
   pub fields : (o k : ℕ) → since o ≡ true → IsPointer extents o k → IsSince since (field (o + k))
   pub globals : (i : ℕ) → IsSince since (global i)
   pub stacks : (g d : ℕ) → IsSince since (registers g d)
@@ -56,10 +58,10 @@ pub record StacksGood (number : ℕ) (scanned : Row) (registers : ℕ → Row) :
 
 pub record Good (z : Cycle) (s : Shared) : Type 0 where
   pub marks : MarksGood (mark_words s.words) s.colour
-  pub objects : ObjectsGood (alloc_words s.words) s.colour s.since s.extents
+  pub objects : ObjectsGood (alloc_words s.words) s.colour s.known s.since s.extents
   pub counts : AreCounted (buffers_as_held s.words s.filled)
   pub entries : EntriesGood (entry_words s.words) s.filled s.colour
-  pub values : ValuesGood s.extents (seen_row s.extents.base (field_words s.words)) (seen_row s.extents.base (global_words s.words)) s.registers s.since
+  pub values : ValuesGood s.extents (seen_row s.extents.base (field_words s.words)) (seen_row s.extents.base (global_words s.words)) s.registers s.known s.since
   pub cursor : CursorGood z.arena.layout.globals (s.words Cell.Gcur) (seen_row s.extents.base (global_words s.words)) s.progress s.colour
   pub passes : PassesGood z.arena.layout.globals (seats_of z.arena.layout) (s.words Cell.Gcur) s.passed
   pub stacks : StacksGood z.number (scanned_words s.words) s.registers

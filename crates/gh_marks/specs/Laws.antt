@@ -4,7 +4,7 @@ use Rattle.gh_marks.specs.Vocabulary.{AreWords, Ask, Cell, Held, IsOf, mark_word
 use Rattle.gh_marks.specs.Colours.{Cycle, IsClean, IsPointer, IsSince, seen_field, seen_global, seen_word, Shared}
 use Rattle.gh_marks.specs.Ends.{EachReachedIsMarked, IsDone, IsFoundAtTheEnd, Opens}
 use Rattle.gh_marks.specs.Good.{Good}
-use Rattle.gh_marks.specs.Moves.{Blacken, ClaimGlobal, EndStack, Enter, GiveBuffer, IsDead, Keeps, LeavesStacks, May, Move, Others, PassGlobals, Place, PutField, PutGlobal, Quiet, ReadGlobal, Reserve, ScanGlobal, ScanStack, SetRegister, Shade, ShadeAgain, ShadeFlat, TakeBuffer, TakeEntry, Went, moved}
+use Rattle.gh_marks.specs.Moves.{Blacken, ClaimGlobal, EndStack, Enter, GiveBuffer, IsDead, IsUnknown, Keeps, LeavesStacks, May, Move, Others, PassGlobals, Place, PutField, PutGlobal, Quiet, ReadGlobal, Reserve, ScanGlobal, ScanStack, SetRegister, Shade, ShadeAgain, ShadeFlat, TakeBuffer, TakeEntry, Went, moved}
 use Rattle.gh_marks.specs.Seats.{ClaimOf, Hands, InHand, NoClaim, ReadOf, nothing}
 
 -- what holds at every moment holds after each move that may be made
@@ -15,15 +15,16 @@ EachMoveKeeps = (z : Cycle) (a : ℕ) (s : Shared) (m : Move) → Good z s → M
 abbrev pub EachMoveLeaves : Type 0
 EachMoveLeaves = (z : Cycle) (a b : ℕ) (s : Shared) (m : Move) → a ≢ b → Good z s → May z b s m → Others z a s (moved z b s m)
 
--- what was dead when the cycle began stays placed and dead
+-- what was dead when the cycle began stays placed and dead, and what is placed and not known stays so
 abbrev pub EachMoveLeavesTheDead : Type 0
-EachMoveLeavesTheDead = (z : Cycle) (a : ℕ) (s : Shared) (m : Move) → Good z s → May z a s m → (o : ℕ) → IsDead s o → IsDead (moved z a s m) o
+EachMoveLeavesTheDead = (z : Cycle) (a : ℕ) (s : Shared) (m : Move) → Good z s → May z a s m → (o : ℕ) → (IsDead s o → IsDead (moved z a s m) o) × (IsUnknown s o → IsUnknown (moved z a s m) o)
 
 -- the same of all moves that make up a step
 pub record StepsGoByMoves (z : Cycle) (a : ℕ) (s t : Shared) : Type 0 where
   pub good : Good z t
   pub others : (b : ℕ) → b ≢ a → Others z b s t
   pub dead : (o : ℕ) → IsDead s o → IsDead t o
+  pub unknown : (o : ℕ) → IsUnknown s o → IsUnknown t o
 
 abbrev pub EachStepGoesByMoves : Type 0
 EachStepGoesByMoves = (z : Cycle) (a : ℕ) (s t : Shared) → Good z s → Went z a s t → StepsGoByMoves z a s t

@@ -36,11 +36,11 @@ pub data Move : Type 0 where
   Reserve : (o : ℕ) → Move
   Place : (o size : ℕ) → (pointer : ℕ → Bool) → (noscan : Bool) → (g d : ℕ) → Move
 
--- Rows that marking does not read. A heap word may change in a step of this kind where it is no pointer field of an object of the cycle: in a slot that is being cleared, and where a field holds a number.
+-- Rows that marking does not read. A heap word may change in a step of this kind where it is no pointer field of an object that is known: in a slot that is being cleared, and where a field holds a number.
 abbrev pub IsAside : Shared → Cell → Type 0
 IsAside s (Cell.Mark i) = ⊥
 IsAside s (Cell.Alloc i) = ⊥
-IsAside s (Cell.Field x) = (o k : ℕ) → s.since o ≡ true → IsPointer s.extents o k → x ≢ o + k
+IsAside s (Cell.Field x) = (o k : ℕ) → s.known o ≡ true → IsPointer s.extents o k → x ≢ o + k
 IsAside s (Cell.Global i) = ⊥
 IsAside s Cell.Gcur = ⊥
 IsAside s (Cell.Buffer b) = ⊥
@@ -89,6 +89,7 @@ moved z a s (Place o size pointer noscan g d) = record s {
   words = set_alloc s.words o;
   registers = update_at s.registers g d (o + 1);
   colour = update s.colour o Black;
+  known = update s.known o true;
   since = update s.since o true;
   extents = with_extent s.extents o size pointer noscan;
 }
@@ -212,8 +213,10 @@ pub record SameExtent (e f : Extents) (o : ℕ) : Type 0 where
 pub record Keeps (z : Cycle) (a : ℕ) (s t : Shared) : Type 0 where
   pub marks : (o : ℕ) → HasMark (mark_words s.words) o → HasMark (mark_words t.words) o
   pub colours : (o : ℕ) → IsMarked s.colour o → IsMarked t.colour o
+  pub known : (o : ℕ) → s.known o ≡ true → t.known o ≡ true
   pub since : (o : ℕ) → s.since o ≡ true → t.since o ≡ true
   pub extents : (o : ℕ) → s.since o ≡ true → SameExtent s.extents t.extents o
+  pub known_extents : (o : ℕ) → s.known o ≡ true → SameExtent s.extents t.extents o
   pub fields : (o k : ℕ) → s.since o ≡ true → IsPointer s.extents o k → (seen_field t (o + k) ≡ seen_field s (o + k)) ⊎ IsClean t.colour (seen_field t (o + k))
   pub globals : (i : ℕ) → (seen_global t i ≡ seen_global s i) ⊎ IsClean t.colour (seen_global t i)
   -- the object that a heap word lies in, where it is one of the cycle
@@ -245,6 +248,11 @@ LeavesStacks _ = Unit {0}
 pub record IsDead (s : Shared) (o : ℕ) : Type 0 where
   pub placed : row_bit (alloc_words s.words) o ≡ 1
   pub dead : s.since o ≡ false
+
+-- what is placed and not known: nothing brings it back
+pub record IsUnknown (s : Shared) (o : ℕ) : Type 0 where
+  pub placed : row_bit (alloc_words s.words) o ≡ 1
+  pub unknown : s.known o ≡ false
 
 -- moves of seat a lead from the one state to the other
 pub data Went (z : Cycle) (a : ℕ) (s : Shared) : Shared → Type 0 where

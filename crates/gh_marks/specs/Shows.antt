@@ -32,11 +32,11 @@ pointer_at s o k = if nat_lt k (s.extents.size o) && (s.extents.pointer o k && n
 abbrev pub global_at : Cycle → Shared → (i : ℕ) → ℕ
 global_at z s i = if nat_lt i z.arena.layout.globals then seen_global s i else 0
 
--- Objects have numbers in the picture: 0 is the globals, and each of the cycle has one from 1 on, those first that there were when it began, and then each as it is made. `at` says at which heap word the object of a number begins.
-pub record Numbers (since : ℕ → Bool) (at : Row) (objects : ℕ) : Type 0 where
+-- Objects have numbers in the picture: 0 is the globals, and each that is known has one from 1 on, those first that there were when it began, and then each as it is made. `at` says at which heap word the object of a number begins.
+pub record Numbers (known : ℕ → Bool) (at : Row) (objects : ℕ) : Type 0 where
   pub some : 0 < objects
-  pub of_cycle : (n : ℕ) → 0 < n → n < objects → since (at n) ≡ true
-  pub all : (o : ℕ) → since o ≡ true → (n : ℕ) × (0 < n) × (n < objects) × (at n ≡ o)
+  pub of_cycle : (n : ℕ) → 0 < n → n < objects → known (at n) ≡ true
+  pub all : (o : ℕ) → known o ≡ true → (n : ℕ) × (0 < n) × (n < objects) × (at n ≡ o)
   pub once : (n m : ℕ) → 0 < n → n < objects → 0 < m → m < objects → at n ≡ at m → n ≡ m
 
 -- what a word names that is 0 or 1 more than a heap word
@@ -46,11 +46,11 @@ pub data Names (at : Row) (objects : ℕ) : Option ℕ → (word : ℕ) → Type
 
 -- The picture shows this state. A store has its old value read, and the new one put there, in one step: so between steps none is under way.
 pub record Shows (z : Cycle) (s : Shared) (at : Row) (p : Tricolour) : Type 0 where
-  pub numbers : Numbers s.since at p.objects
+  pub numbers : Numbers s.known at p.objects
   pub stacks : p.stacks ≡ z.arena.layout.goroutines
   pub globals_fit : z.arena.layout.globals ≤ p.fields
   pub objects_fit : 1024 * z.arena.layout.pages ≤ p.fields
-  pub sizes : (o : ℕ) → s.since o ≡ true → s.extents.size o ≤ 1024 * z.arena.layout.pages
+  pub sizes : (o : ℕ) → s.known o ≡ true → s.extents.size o ≤ 1024 * z.arena.layout.pages
   pub colours : (n : ℕ) → 0 < n → n < p.objects → p.colour n ≡ shade_of (s.colour (at n))
   -- the globals are grey until each of them is scanned
   pub waits : (i : ℕ) → i < z.arena.layout.globals → is_scanned (s.progress i) ≡ false → p.colour 0 ≡ shade.Grey

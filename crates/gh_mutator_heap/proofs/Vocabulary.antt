@@ -35,7 +35,7 @@ pub use Rattle.gh_bitmap.specs.Stepping.{FitsSlot}
 pub use Rattle.gh_central.specs.Sweeping.{SweepLeaves}
 pub use Rattle.gh_class.specs.Classes.{IsSizeClass, pages_of, size_class_of, slot_of, slot_words_of}
 pub use Rattle.gh_class.specs.declared.class.TheConstants.{SPAN_CLASSES}
-pub use Rattle.gh_cycle.specs.Beside.{ClaimedFieldsAreAside, ClaimsSlot, FillsNone, IsBeside, IsOfCycle, MarkingAloneGoesBeside, ObjectsAreKnownBeside, SlotsAreReserved}
+pub use Rattle.gh_cycle.specs.Beside.{ClaimedFieldsAreAside, ClaimsSlot, FillsNone, IsBeside, IsKnownObject, MarkingAloneGoesBeside, ObjectsAreKnownBeside, SlotsAreReserved}
 pub use Rattle.gh_cycle.specs.Deeds.{Deed, DeedsGoBeside, Ends, ever_by, from_field, from_global, from_nil, from_number, from_register, hand_behind, MeetsByDeed, Puts, PutsGlobal, Sets, StepsBeside}
 pub use Rattle.gh_heap.specs.Laws.{AllAreSwept, EachMoveKeepsItsOwn, EachRightFollows, KeepsItsOwn, TheHeapIsApart}
 pub use Rattle.gh_heap.specs.Moves.{Disown, IsQuiet, IsReached, IsReady, KeepsTaken, landing, Lands, LeaveLock, May, MayMake, MayWrite, Move, moved, placed_at, Quiet, Refuse, TakeLock, Takes, Write, WriteGlobal}

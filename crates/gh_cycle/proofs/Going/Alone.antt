@@ -1,6 +1,6 @@
 -- A step that is made of moves of marking, over a move of the heap that leaves the heap that never frees: the two states still belong together.
 use Rattle.std.proofs.Common.{◌≡◌, ◌≢◌, ℕ, ◌<◌, suc, Bool, true, false, refl, sym, ap, subst, ◌∙◌, inl, inr, arith}
-use Rattle.gh_cycle.proofs.Vocabulary.{alloc_words, birth_words, Cell, ClaimsSlot, Cycle, END, eqb_tells, Ever, Good, Heap, IsBeside, IsMade, IsOfCycle, KnownOfMoves, Marking, MarkingAloneGoesBeside, MarkingGood, MarksAlone, Name, Place, Placed, Placing, Reach, reference_of, RegistersFit, Row, row_bit, view, Words}
+use Rattle.gh_cycle.proofs.Vocabulary.{alloc_words, birth_words, Cell, ClaimsSlot, Cycle, END, eqb_tells, Ever, Good, Heap, IsBeside, IsKnownObject, IsMade, KnownOfMoves, Marking, MarkingAloneGoesBeside, MarkingGood, MarksAlone, Name, Place, Placed, Placing, Reach, reference_of, RegistersFit, Row, row_bit, view, Words}
 use Rattle.gh_heap.specs.Moves as heap
 use Rattle.gh_marks.specs.Laws.{StepsGoByMoves}
 use Rattle.gh_cycle.proofs.Going.Lasting.{bases-stay, beside-lasts}
@@ -20,22 +20,22 @@ module _ (k : KnownOfMoves) (z : Cycle) (a : ℕ) (h : Heap) (s t : Marking) (m 
   step : StepsGoByMoves z a s t
   step = k.steps z a s t marking alone.went
 
-  -- Objects: none came to be of the cycle, since its alloc bit was set before.
+  -- Objects: none came to be known, for its alloc bit was set before.
 
   same-alloc : alloc_words t.words ≡ alloc_words s.words
   same-alloc = ap (λ (u : Words). alloc_words u) alone.words_are ∙ left.alloc
 
-  was-since : (o : ℕ) → t.since o ≡ true → s.since o ≡ true
-  was-since o now = by (s.since o) refl where
-    by : (b : Bool) → s.since o ≡ b → s.since o ≡ true
+  was-known : (o : ℕ) → t.known o ≡ true → s.known o ≡ true
+  was-known o now = by (s.known o) refl where
+    by : (b : Bool) → s.known o ≡ b → s.known o ≡ true
     by true e = e
-    by false e = absurd (let d = step.dead o (record { placed = ap (λ (r : Row). row_bit r o) (sym same-alloc) ∙ step.good.objects.placed o now; dead = e }) in let no : true ≡ false = sym now ∙ d.dead in cc)
+    by false e = absurd (let d = step.unknown o (record { placed = ap (λ (r : Row). row_bit r o) (sym same-alloc) ∙ step.good.objects.placed o now; unknown = e }) in let no : true ≡ false = sym now ∙ d.unknown in cc)
 
-  of-cycle : (n : Name) → IsOfCycle after t n → IsOfCycle (here h s) s n
-  of-cycle n o = record {
+  known-before : (n : Name) → IsKnownObject after t n → IsKnownObject (here h s) s n
+  known-before n o = record {
     made = subst (λ (e : Ever). IsMade e.made n) ever o.made;
     placed = stood z a h s m left n (subst (λ (f : Place). Placed (alloc_words s.words) (birth_words after.words) f n) left.place (subst (λ (r : Row). Placed r (birth_words after.words) after.place n) left.alloc o.placed));
-    since = was-since (h.place n) (ap t.since (sym (ap (λ (f : Place). f n) left.place)) ∙ o.since);
+    known = was-known (h.place n) (ap t.known (sym (ap (λ (f : Place). f n) left.place)) ∙ o.known);
   }
 
   -- Slots and stacks: of this seat as it is told, and those of others as the moves of one leave them to another.
@@ -70,9 +70,10 @@ module _ (k : KnownOfMoves) (z : Cycle) (a : ℕ) (h : Heap) (s t : Marking) (m 
     types = ap (λ (e : Ever). e.type_of) ever;
     reach = λ n r. subst (λ (e : Ever). Reach e n) ever r;
     since = (step.others (suc a) (λ e. omega (arith, e))).keeps.since;
-    of_cycle = of-cycle;
+    known = (step.others (suc a) (λ e. omega (arith, e))).keeps.known;
+    known_before = known-before;
     bases = bases-stay z a s t alone.went;
-    extents = (step.others (suc a) (λ e. omega (arith, e))).keeps.extents;
+    extents = (step.others (suc a) (λ e. omega (arith, e))).keeps.known_extents;
     filling = filling;
     registers = fit;
     goes_on = goes-on;

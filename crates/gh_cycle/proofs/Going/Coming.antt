@@ -1,6 +1,6 @@
 -- Where a register takes its value from the heap that never frees, marking sees its word come from the same place; and so a script reaches the value.
 use Rattle.std.proofs.Common.{◌≡◌, ℕ, ◌+◌, ◌<◌, Bool, true, false, Some, refl, sym, subst, ◌∙◌, arith}
-use Rattle.gh_cycle.proofs.Vocabulary.{Arena, Cell, Cycle, Ever, EverValue, from_nil, from_number, GoroutineRuns, Heap, Holds, IsMade, IsOfCycle, IsPointer, IsReached, Marking, Name, names, Place, points, Reach, reference_of, REGISTERS, seen_field, seen_global, shape_for, size_for, TakesFrom, TheReachedWereMade, view}
+use Rattle.gh_cycle.proofs.Vocabulary.{Arena, Cell, Cycle, Ever, EverValue, from_nil, from_number, GoroutineRuns, Heap, Holds, IsKnownObject, IsMade, IsPointer, IsReached, Marking, Name, names, Place, points, Reach, reference_of, REGISTERS, seen_field, seen_global, shape_for, size_for, TakesFrom, TheReachedWereMade, view}
 use Rattle.gh_model.specs.Ever as path
 use Rattle.gh_marks.specs.Moves as marks
 use Rattle.gh_cycle.specs.Deeds.{from_field, from_global, from_register}
@@ -42,8 +42,8 @@ module _ (made : TheReachedWereMade) (z : Cycle) (a : ℕ) (h : Heap) (s : Marki
     known : IsMade h.ever.made n
     known = made z.arena h.ever w.bounded n reach
 
-    of : IsOfCycle (here h s) s n
-    of = record { made = known; placed = w.heap.reached n reach; since = w.beside.reached n reach }
+    of : IsKnownObject (here h s) s n
+    of = record { made = known; placed = w.heap.reached n reach; known = w.beside.known n reach }
 
     by : (p : Bool) → points z.arena.shapes h.ever.type_of n k ≡ p → Holds h.place h.ever.made p (h.ever.field n k) (s.words (Cell.Field (h.place n + k))) → Comes (h.ever.field n k)
     by true kind holds = by-word (seen_field s (h.place n + k)) (h.ever.field n k) (seen_is s.extents.base w.beside.base (s.words (Cell.Field (h.place n + k))) ∙ word-of h.place h.ever.made (h.ever.field n k) (s.words (Cell.Field (h.place n + k))) holds)

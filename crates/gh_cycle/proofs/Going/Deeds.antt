@@ -1,6 +1,6 @@
 -- Each step of a processor beside marking, by what it does. The move over the heap is not told: where an object is made or a value written, a move that is told leaves the same words, values and places; and where a step leaves objects alone, so does every move by which it may come.
 use Rattle.std.proofs.Common.{◌≡◌, ℕ, refl, sym, ap, subst, ◌∙◌, arith}
-use Rattle.gh_cycle.proofs.Vocabulary.{alloc_words, Arena, Ask, birth_words, ClaimsSlot, ComesBy, Cycle, Deed, DeedsGoBeside, effect, Ever, Good, hand_behind, Hands, Heap, InHand, IsBeside, IsMade, IsOfCycle, IsSlotOf, KnownOfMoves, Marking, MeetsByDeed, Name, owner_at, page_words, Place, Placed, Reach, reference_of, row_bit, StepsBeside, view, Words}
+use Rattle.gh_cycle.proofs.Vocabulary.{alloc_words, Arena, Ask, birth_words, ClaimsSlot, ComesBy, Cycle, Deed, DeedsGoBeside, effect, Ever, Good, hand_behind, Hands, Heap, InHand, IsBeside, IsKnownObject, IsMade, IsSlotOf, KnownOfMoves, Marking, MeetsByDeed, Name, owner_at, page_words, Place, Placed, Reach, reference_of, row_bit, StepsBeside, view, Words}
 use Rattle.gh_heap.specs.Moves as heap
 use Rattle.gh_cycle.specs.Deeds as deed
 use Rattle.gh_cycle.proofs.Going.Lasting.{beside-lasts}
@@ -27,11 +27,11 @@ module _ (z : Arena) (h k : Heap) (t : Marking) (good : Good z (view h)) (well :
     };
   }
 
-  same-object : (n : Name) → IsOfCycle k t n → IsOfCycle h t n
+  same-object : (n : Name) → IsKnownObject k t n → IsKnownObject h t n
   same-object n o = record {
     made = subst (λ (e : Ever). IsMade e.made n) ever o.made;
     placed = subst (λ (f : Place). Placed (alloc_words h.words) (birth_words h.words) f n) place (subst (λ (u : Words). Placed (alloc_words u) (birth_words u) k.place n) words o.placed);
-    since = ap (λ (f : Place). t.since (f n)) (sym place) ∙ o.since;
+    known = ap (λ (f : Place). t.known (f n)) (sym place) ∙ o.known;
   }
 
   same-beside : IsBeside z k t
@@ -41,7 +41,8 @@ module _ (z : Arena) (h k : Heap) (t : Marking) (good : Good z (view h)) (well :
     types = ap (λ (e : Ever). e.type_of) ever;
     reach = λ n r. subst (λ (e : Ever). Reach e n) ever r;
     since = λ o is. is;
-    of_cycle = same-object;
+    known = λ o is. is;
+    known_before = same-object;
     bases = refl;
     extents = λ o is. record { size = refl; pointer = refl; noscan = refl };
     filling = λ o a is. same-claim o a (c.filling o a is);

@@ -1,6 +1,6 @@
 -- What a step leaves that makes no object: the two states still belong together.
 use Rattle.std.proofs.Common.{arith, ap, refl, ◌∙◌, ◌≡◌, ◌≢◌, ℕ, ◌<◌, true, false}
-use Rattle.gh_cycle.proofs.Vocabulary.{Arena, Cell, ClaimsSlot, END, Heap, IsBeside, IsOfCycle, Marking, Name, Placing, Reach, RegistersFit, view, Cycle}
+use Rattle.gh_cycle.proofs.Vocabulary.{Arena, Cell, ClaimsSlot, END, Heap, IsBeside, IsKnownObject, Marking, Name, Placing, Reach, RegistersFit, view, Cycle}
 use Rattle.gh_marks.specs.Moves as marks
 use Rattle.gh_marks.specs.Moves.{SameExtent}
 
@@ -10,9 +10,10 @@ pub record MakesNone (z : Arena) (h k : Heap) (s t : Marking) : Type 0 where
   pub types : k.ever.type_of ≡ h.ever.type_of
   pub reach : (n : Name) → Reach k.ever n → Reach h.ever n
   pub since : (o : ℕ) → s.since o ≡ true → t.since o ≡ true
-  pub of_cycle : (n : Name) → IsOfCycle k t n → IsOfCycle h s n
+  pub known : (o : ℕ) → s.known o ≡ true → t.known o ≡ true
+  pub known_before : (n : Name) → IsKnownObject k t n → IsKnownObject h s n
   pub bases : t.extents.base ≡ s.extents.base
-  pub extents : (o : ℕ) → s.since o ≡ true → SameExtent s.extents t.extents o
+  pub extents : (o : ℕ) → s.known o ≡ true → SameExtent s.extents t.extents o
   pub filling : (o a : ℕ) → t.colour o ≡ Placing a → ClaimsSlot z (view k) a o
   pub registers : RegistersFit z k t
   pub goes_on : (g : ℕ) → g < z.layout.goroutines → k.ever.ended g ≡ false → t.words (Cell.Scanned g) ≢ END

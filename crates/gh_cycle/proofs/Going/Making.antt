@@ -1,6 +1,6 @@
 -- An object is made beside marking: it is black from the first, since its slot was marked before and its pointer fields are clear.
 use Rattle.std.proofs.Common.{◌≡◌, ◌≢◌, ℕ, ◌+◌, ◌-◌, ◌*◌, ◌<◌, ◌≤◌, ◌⊎◌, Bool, true, false, cond, Some, refl, sym, ap, subst, ◌∙◌, inl, inr, arith, eq-eqb}
-use Rattle.gh_cycle.proofs.Vocabulary.{alloc_words, Black, ClaimsSlot, Cycle, eqb_tells, EverValue, field_count, Good, Hands, Heap, InHand, is_pointer, IsMade, IsOfCycle, KnownOfMoves, Marking, Name, names, next_name, Placed, Placing, points, Reach, reference_of, RegistersFit, row_bit, same_name, Shape, shape_at, shape_for, size_for, update, view, with_object}
+use Rattle.gh_cycle.proofs.Vocabulary.{alloc_words, Black, ClaimsSlot, Cycle, eqb_tells, EverValue, field_count, Good, Hands, Heap, InHand, is_pointer, IsKnownObject, IsMade, KnownOfMoves, Marking, Name, names, next_name, Placed, Placing, points, Reach, reference_of, RegistersFit, row_bit, same_name, Shape, shape_at, shape_for, size_for, update, view, with_object}
 use Rattle.gh_heap.specs.Moves as heap
 use Rattle.gh_marks.specs.Moves as marks
 use Rattle.gh_cycle.proofs.Reaching.{name-itself, name-tells}
@@ -86,15 +86,15 @@ module _ (k : KnownOfMoves) (z : Cycle) (a : ℕ) (h : Heap) (s : Marking) (w : 
         subst (λ (x : ℕ). n.k < h.ever.made x) (sym y.1) (omega (arith, below, another))
   ]
 
-  -- an object of the cycle behind the move is the new one, or was one before, elsewhere
+  -- an object that is known behind the move is the new one, or was one before, elsewhere
   record Old (n : Name) : Type 0 where
-    of : IsOfCycle (here h s) s n
+    of : IsKnownObject (here h s) s n
     other_place : at ≢ h.place n
 
   Cases : Name → Type 0
   Cases n = (n ≡ new) ⊎ Old n
 
-  cases-of : (n : Name) → IsOfCycle after then n → Cases n
+  cases-of : (n : Name) → IsKnownObject after then n → Cases n
   unfolding Cases
   cases-of n o = elim (eqb_tells at (after.place n)) [
     | inl y ↦ inl ((k.apart z.arena (view after) good-then).once n new o.made new-made o.placed new-placed (sym y.1 ∙ sym at-new))
@@ -110,7 +110,7 @@ module _ (k : KnownOfMoves) (z : Cycle) (a : ℕ) (h : Heap) (s : Marking) (w : 
               set = sym (k.rows.sets_no_other (alloc_words s.words) at (h.place n) apart) ∙ ap (λ (x : ℕ). row_bit (alloc_words after.words) x) (sym (place-old n made)) ∙ o.placed.set;
               says = ap (view after).birth (sym (place-old n made)) ∙ o.placed.says;
             };
-            since = sym (update-other s.since at (h.place n) true apart) ∙ ap then.since (sym (place-old n made)) ∙ o.since;
+            known = sym (update-other s.known at (h.place n) true apart) ∙ ap then.known (sym (place-old n made)) ∙ o.known;
           };
           other_place = apart;
         }
@@ -123,7 +123,7 @@ module _ (k : KnownOfMoves) (z : Cycle) (a : ℕ) (h : Heap) (s : Marking) (w : 
 
   -- The words of its type.
 
-  size : (n : Name) → IsOfCycle after then n → then.extents.size (after.place n) ≡ size_for z.arena.shapes after.ever.type_of n
+  size : (n : Name) → IsKnownObject after then n → then.extents.size (after.place n) ≡ size_for z.arena.shapes after.ever.type_of n
   unfolding Cases
   size n o = elim (cases-of n o) [
     | inl e ↦ subst (λ (m : Name). then.extents.size (after.place m) ≡ size_for z.arena.shapes after.ever.type_of m) (sym e)
@@ -131,7 +131,7 @@ module _ (k : KnownOfMoves) (z : Cycle) (a : ℕ) (h : Heap) (s : Marking) (w : 
     | inr p ↦ ap then.extents.size (place-old n p.of.made) ∙ update-other s.extents.size at (h.place n) (field_count shape) p.other_place ∙ w.beside.size n p.of ∙ ap (λ (x : ℕ). field_count (shape_at z.arena.shapes x)) (sym (type-old n p.of.made))
   ]
 
-  pointer : (n : Name) (j : ℕ) → IsOfCycle after then n → j < size_for z.arena.shapes after.ever.type_of n → then.extents.pointer (after.place n) j ≡ points z.arena.shapes after.ever.type_of n j
+  pointer : (n : Name) (j : ℕ) → IsKnownObject after then n → j < size_for z.arena.shapes after.ever.type_of n → then.extents.pointer (after.place n) j ≡ points z.arena.shapes after.ever.type_of n j
   unfolding Cases
   pointer n j o l = elim (cases-of n o) [
     | inl e ↦ subst (λ (m : Name). then.extents.pointer (after.place m) j ≡ points z.arena.shapes after.ever.type_of m j) (sym e)
@@ -140,7 +140,7 @@ module _ (k : KnownOfMoves) (z : Cycle) (a : ℕ) (h : Heap) (s : Marking) (w : 
         ∙ w.beside.pointer n j p.of (subst (λ (x : ℕ). j < field_count (shape_at z.arena.shapes x)) (type-old n p.of.made) l) ∙ ap (λ (x : ℕ). is_pointer (shape_at z.arena.shapes x) j) (sym (type-old n p.of.made))
   ]
 
-  noscan : (n : Name) → IsOfCycle after then n → then.extents.noscan (after.place n) ≡ (shape_for z.arena.shapes after.ever.type_of n).noscan
+  noscan : (n : Name) → IsKnownObject after then n → then.extents.noscan (after.place n) ≡ (shape_for z.arena.shapes after.ever.type_of n).noscan
   unfolding Cases
   noscan n o = elim (cases-of n o) [
     | inl e ↦ subst (λ (m : Name). then.extents.noscan (after.place m) ≡ (shape_for z.arena.shapes after.ever.type_of m).noscan) (sym e)
@@ -150,14 +150,14 @@ module _ (k : KnownOfMoves) (z : Cycle) (a : ℕ) (h : Heap) (s : Marking) (w : 
 
   -- What is reached, what is claimed, and registers.
 
-  still-since : (x : ℕ) → s.since x ≡ true → then.since x ≡ true
-  still-since x is = elim (eqb_tells at x) [ inl y ↦ rw (y.0) refl | inr n ↦ rw (n.0) is ]
-
-  reached : (n : Name) → Reach after.ever n → then.since (after.place n) ≡ true
-  reached n r = elim (k.reaches z.arena a (here h s) move may n r) [
-    | inl was ↦ ap then.since (place-old n (k.made z.arena h.ever w.bounded n was)) ∙ still-since (h.place n) (w.beside.reached n was)
-    | inr e ↦ let is : new ≡ n = cc in subst (λ (m : Name). then.since (after.place m) ≡ true) is (ap then.since at-new ∙ update-here s.since at true)
-  ]
+  -- the new object is of a set of objects, and what a script reached before is still
+  with-new : (f : ℕ → Bool) → ((n : Name) → Reach h.ever n → f (h.place n) ≡ true) → (n : Name) → Reach after.ever n → update f at true (after.place n) ≡ true
+  with-new f before n r = elim (k.reaches z.arena a (here h s) move may n r) [
+    | inl was ↦ ap (update f at true) (place-old n (k.made z.arena h.ever w.bounded n was)) ∙ still (h.place n) (before n was)
+    | inr e ↦ let is : new ≡ n = cc in subst (λ (m : Name). update f at true (after.place m) ≡ true) is (ap (update f at true) at-new ∙ update-here f at true)
+  ] where
+    still : (x : ℕ) → f x ≡ true → update f at true x ≡ true
+    still x is = elim (eqb_tells at x) [ inl y ↦ rw (y.0) refl | inr n ↦ rw (n.0) is ]
 
   filling : (o b : ℕ) → then.colour o ≡ Placing b → ClaimsSlot z.arena (view after) b o
   filling o b is = elim (eqb_tells at o) [
@@ -183,7 +183,7 @@ module _ (k : KnownOfMoves) (z : Cycle) (a : ℕ) (h : Heap) (s : Marking) (w : 
   makes = record {
     then = then;
     went = went;
-    beside = record { words = refl; reached = reached; base = w.beside.base; size = size; pointer = pointer; noscan = noscan; filling = filling; registers = fit; goes_on = w.beside.goes_on };
+    beside = record { words = refl; reached = with-new s.since w.beside.reached; known = with-new s.known w.beside.known; base = w.beside.base; size = size; pointer = pointer; noscan = noscan; filling = filling; registers = fit; goes_on = w.beside.goes_on };
     hands = hands;
     marked = λ o is. is;
   }

@@ -45,6 +45,7 @@ pub record GoesAlong (z : Cycle) (a : ℕ) (h : Heap) (s : Marking) (m : heap.Mo
   pub went : marks.Went z a s t
   pub words : t.words ≡ (there z a h s m).words
   pub since : t.since ≡ s.since
+  pub known : t.known ≡ s.known
   pub extents : t.extents ≡ s.extents
   pub colour : t.colour ≡ s.colour
   pub marked : (o : ℕ) → HasMark (mark_words s.words) o → HasMark (mark_words t.words) o
@@ -81,10 +82,11 @@ module _ (k : KnownOfMoves) (z : Cycle) (a : ℕ) (h : Heap) (s : Marking) (w : 
         types = p.types;
         reach = reaches-no-more m may p.none;
         since = λ o is. ap (λ f. f o) g.since ∙ is;
-        of_cycle = λ n o. record {
+        known = λ o is. ap (λ f. f o) g.known ∙ is;
+        known_before = λ n o. record {
           made = subst (λ (f : ℕ → ℕ). IsMade f n) p.made o.made;
           placed = placed n (subst (λ (f : Name → ℕ). Placed (alloc_words s.words) (birth_words (there z a h s m).words) f n) p.place (subst (λ (r : Row). Placed r (birth_words (there z a h s m).words) (there z a h s m).place n) p.alloc o.placed));
-          since = sym (ap (λ f. f (h.place n)) g.since) ∙ ap t.since (sym (ap (λ f. f n) p.place)) ∙ o.since;
+          known = sym (ap (λ f. f (h.place n)) g.known) ∙ ap t.known (sym (ap (λ f. f n) p.place)) ∙ o.known;
         };
         bases = ap (λ e. e.base) g.extents;
         extents = λ o is. record { size = ap (λ e. e.size o) g.extents; pointer = ap (λ e. e.pointer o) g.extents; noscan = ap (λ e. e.noscan o) g.extents };
@@ -109,6 +111,7 @@ module _ (k : KnownOfMoves) (z : Cycle) (a : ℕ) (h : Heap) (s : Marking) (w : 
     went = marks.goes s (marks.Quiet step) marks.stays q;
     words = words;
     since = refl;
+    known = refl;
     extents = refl;
     colour = refl;
     marked = (k.own z a s (marks.Quiet step) w.marking q tt).marks;

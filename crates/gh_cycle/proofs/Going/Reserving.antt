@@ -58,7 +58,7 @@ module _ (least : (c : ℕ) → c < 25 → 8 ≤ slot_of c) (apart : TheHeapIsAp
   empty set = zero_one (row_bit (alloc_words s.words) at) claim.clear set
 
   shaded : (k : Colour) → s.colour at ≡ k → IsShaded k → s.colour at ≡ White
-  shaded k e is = absurd (empty (m.objects.placed at (m.objects.shaded at (subst IsShaded (sym e) is))))
+  shaded k e is = absurd (empty (m.objects.placed at (m.objects.of_cycle at (m.objects.shaded at (subst IsShaded (sym e) is)))))
 
   white-if : (k : Colour) → s.colour at ≡ k → s.colour at ≡ White
   white-if White e = e
@@ -86,7 +86,8 @@ module _ (least : (c : ℕ) → c < 25 → 8 ≤ slot_of c) (apart : TheHeapIsAp
       types = refl;
       reach = λ n r. r;
       since = λ o is. is;
-      of_cycle = λ n o. record { made = o.made; placed = o.placed; since = o.since };
+      known = λ o is. is;
+      known_before = λ n o. record { made = o.made; placed = o.placed; known = o.known };
       bases = refl;
       extents = λ o is. record { size = refl; pointer = refl; noscan = refl };
       filling = λ o b is. let d = filling o b is in record { size = d.size; claim = d.claim };

@@ -71,6 +71,7 @@ module _ (k : KnownOfMoves) (z : Cycle) (a : ℕ) (h : Heap) (s : Marking) (w : 
           went = marks.goes set (marks.Quiet step) (marks.goes s (marks.SetRegister g d word) marks.stays may-set) quiet;
           words = words;
           since = refl;
+          known = refl;
           extents = refl;
           colour = refl;
           marked = (along-quiet k z a h s w m step mq words).marked;
@@ -99,6 +100,7 @@ module _ (k : KnownOfMoves) (z : Cycle) (a : ℕ) (h : Heap) (s : Marking) (w : 
     went = marks.goes s (marks.EndStack g) marks.stays may.1.of;
     words = ap (effect s.words) (sym is);
     since = refl;
+    known = refl;
     extents = refl;
     colour = refl;
     marked = λ o set. set;

@@ -1,6 +1,6 @@
--- Fields and globals take values beside marking: pointers behind the write barrier, and a number where no object of the cycle has a pointer field.
+-- Fields and globals take values beside marking: pointers behind the write barrier, and a number where no object that is known has a pointer field.
 use Rattle.std.proofs.Common.{◌≡◌, ◌≢◌, ℕ, ◌+◌, Bool, true, false, refl, subst, arith}
-use Rattle.gh_cycle.proofs.Vocabulary.{Ask, Cell, ClaimsSlot, Cycle, EverValue, Hands, Heap, Holds, InHand, IsClean, IsOfCycle, IsPointer, IsReached, IsSince, KnownOfMoves, Marking, Name, Placing, points, put, view, seen_field, seen_global, seen_word}
+use Rattle.gh_cycle.proofs.Vocabulary.{Ask, Cell, ClaimsSlot, Cycle, EverValue, Hands, Heap, Holds, InHand, IsClean, IsKnownObject, IsPointer, IsReached, IsSince, KnownOfMoves, Marking, Name, Placing, points, put, view, seen_field, seen_global, seen_word}
 use Rattle.gh_heap.specs.Moves as heap
 use Rattle.gh_marks.specs.Moves as marks
 use Rattle.gh_cycle.proofs.Said.{seen-since}
@@ -30,16 +30,16 @@ module _ (k : KnownOfMoves) (z : Cycle) (a : ℕ) (h : Heap) (s : Marking) (w : 
     abbrev written : Marking
     written = record s { words = put s.words (Cell.Field x) word }
 
-    -- a field that is no pointer is no pointer field of an object of the cycle
-    aside : points z.arena.shapes h.ever.type_of n i ≡ false → (o j : ℕ) → s.since o ≡ true → IsPointer s.extents o j → x ≢ o + j
-    aside number o j since =
-        let m = name-at z h s w.heap w.marking o since in
+    -- a field that is no pointer is no pointer field of an object that is known
+    aside : points z.arena.shapes h.ever.type_of n i ≡ false → (o j : ℕ) → s.known o ≡ true → IsPointer s.extents o j → x ≢ o + j
+    aside number o j known =
+        let m = name-at z h s w.heap w.marking o known in
         subst (λ (y : ℕ). IsPointer s.extents y j → x ≢ y + j) m.at (from m.name m.of) where
-          from : (m : Name) → IsOfCycle (here h s) s m → IsPointer s.extents (h.place m) j → x ≢ h.place m + j
+          from : (m : Name) → IsKnownObject (here h s) s m → IsPointer s.extents (h.place m) j → x ≢ h.place m + j
           from m of l = grind arith
 
     along : marks.Went z a s written → ((y : InHand) → Hands a s y → Hands a written y) → GoesAlong z a h s (heap.Write n i value word) written
-    along went hands = record { went = went; words = refl; since = refl; extents = refl; colour = refl; marked = λ o is. is; hands = hands }
+    along went hands = record { went = went; words = refl; since = refl; known = refl; extents = refl; colour = refl; marked = λ o is. is; hands = hands }
 
     along-by : (b : Bool) → points z.arena.shapes h.ever.type_of n i ≡ b → Barrier → GoesAlong z a h s (heap.Write n i value word) written
     along-by true e meets = along (marks.goes s (marks.PutField x word) marks.stays behind) (λ y is. (k.hands z a s y w.marking is).put_field x word) where
@@ -57,6 +57,7 @@ module _ (k : KnownOfMoves) (z : Cycle) (a : ℕ) (h : Heap) (s : Marking) (w : 
     went = marks.goes s (marks.PutGlobal i word) marks.stays (record { old = old; new = new; since = seen-since s.since s.extents.base w.beside.base word (word-since value word may.value_reached may.holds) });
     words = refl;
     since = refl;
+    known = refl;
     extents = refl;
     colour = refl;
     marked = λ o is. is;

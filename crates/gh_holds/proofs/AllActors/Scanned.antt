@@ -44,11 +44,11 @@ module _ (setup : Setup) (lists : ListsKnown setup) where
 
     slotted : (o : ℕ) → s.since o ≡ true → HasSlot o
     slotted o since =
-        let set : row_bit (alloc_words h.words) o ≡ 1 = subst (λ (w : Words). row_bit (alloc_words w) o ≡ 1) m.known.beside.words (m.good.objects.placed o since) in
+        let set : row_bit (alloc_words h.words) o ≡ 1 = subst (λ (w : Words). row_bit (alloc_words w) o ≡ 1) m.known.beside.words (m.good.objects.placed o (m.good.objects.of_cycle o since)) in
         let b = good.bits o set in
         let placed : Placed (view h).alloc (view h).birth h.place b.0 = record { set = subst (λ (x : ℕ). row_bit (alloc_words h.words) x ≡ 1) (sym b.2) set; says = ap (view h).birth b.2 ∙ b.3 } in
         let has : InSlot setup.shapes setup.layout.pages (view h).page h.place h.ever.type_of b.0 = good.slots b.0 b.1 placed in
-        let size : s.extents.size (h.place b.0) ≡ size_for setup.shapes h.ever.type_of b.0 = m.known.beside.size b.0 (record { made = b.1; placed = placed; since = subst (λ (x : ℕ). s.since x ≡ true) (sym b.2) since }) in
+        let size : s.extents.size (h.place b.0) ≡ size_for setup.shapes h.ever.type_of b.0 = m.known.beside.size b.0 (record { made = b.1; placed = placed; known = subst (λ (x : ℕ). s.known x ≡ true) (sym b.2) (m.good.objects.of_cycle o since) }) in
         subst HasSlot b.2 (record { p = has.p; head = has.h; i = has.i; slot = subst (λ (x : ℕ). IsSlotOf setup.layout.pages (view h).page has.p has.h has.i (h.place b.0) x) (sym size) has.slot })
 
     apart : HeapIsApart z (view h)

@@ -37,7 +37,7 @@ objects_stay steps z a s t good went slots = record { since = λ o. by o (t.sinc
   others = step.others (suc a) (λ e. omega (arith, e))
 
   placed : (o : ℕ) → t.since o ≡ true → row_bit (alloc_words s.words) o ≡ 1
-  placed o e = same_bit (alloc_words s.words) (alloc_words t.words) o (sym (slots (o / 64))) (step.good.objects.placed o e)
+  placed o e = same_bit (alloc_words s.words) (alloc_words t.words) o (sym (slots (o / 64))) (step.good.objects.placed o (step.good.objects.of_cycle o e))
 
   by : (o : ℕ) (now was : Bool) → t.since o ≡ now → s.since o ≡ was → t.since o ≡ s.since o
   by o true true e f = e ∙ sym f

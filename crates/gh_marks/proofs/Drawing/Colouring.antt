@@ -18,7 +18,7 @@ module _ (z : Cycle) (a : ℕ) (s : Shared) (at : Row) (p : Tricolour) (room : �
 
   pub shade-drawn : (o : ℕ) → Drawn (Shades o)
   shade-drawn o may =
-      let n = sh.numbers.all o may.0.since in
+      let n = sh.numbers.all o (g.objects.of_cycle o may.0.since) in
       let t = moved z a s (Shades o) in
       let was : s.colour o ≡ White = white-colour (mark_words s.words) s.colour g.marks o may.0.white in
       record {
@@ -32,7 +32,7 @@ module _ (z : Cycle) (a : ℕ) (s : Shared) (at : Row) (p : Tricolour) (room : �
       }
 
   -- each field is scanned, and the object is black
-  blacken : (t : Shared) (o : ℕ) → Shows z t at p → s.since o ≡ true → t.since ≡ s.since → ((n : ℕ) → 0 < n → n < p.objects → at n ≡ o → (f : ℕ) → f < p.fields → NilOrMarked p (p.value n f)) → IsDrawn z (record t { colour = update t.colour o Black }) p room
+  blacken : (t : Shared) (o : ℕ) → Shows z t at p → s.known o ≡ true → t.known ≡ s.known → ((n : ℕ) → 0 < n → n < p.objects → at n ≡ o → (f : ℕ) → f < p.fields → NilOrMarked p (p.value n f)) → IsDrawn z (record t { colour = update t.colour o Black }) p room
   blacken t o shows known same clean =
       let n = sh.numbers.all o known in
       record {
@@ -50,7 +50,7 @@ module _ (z : Cycle) (a : ℕ) (s : Shared) (at : Row) (p : Tricolour) (room : �
   flat-drawn o may = let t = moved z a s (ShadeFlat o) in
       blacken (record s { words = t.words }) o
       (shows-still z s at p sh t.words s.colour s.filled s.progress s.passed (λ q k i l. refl) (λ i l. refl) (λ h. refl) (λ q known. refl) (λ i. refl))
-      may.0.since refl clean where
+      (g.objects.of_cycle o may.0.since) refl clean where
         flat : (n f : ℕ) → at n ≡ o → ¬ IsPointer s.extents (at n) f
         flat n f e l = two-ways (ap s.extents.noscan e ∙ may.1) l.2
 
@@ -59,7 +59,7 @@ module _ (z : Cycle) (a : ℕ) (s : Shared) (at : Row) (p : Tricolour) (room : �
             let none : p.value n f ≡ None = named-nothing at p.objects (p.value n f) _ (sh.fields n f some below) (pointer-none s (at n) f (flat n f e)) in cc
 
   pub blacken-drawn : (o : ℕ) → Drawn (Blacken o)
-  blacken-drawn o may = blacken s o sh (g.objects.shaded o (rw (may.0) tt)) refl clean where
+  blacken-drawn o may = blacken s o sh (g.objects.of_cycle o (g.objects.shaded o (rw (may.0) tt))) refl clean where
     clean : (n : ℕ) → 0 < n → n < p.objects → at n ≡ o → (f : ℕ) → f < p.fields → NilOrMarked p (p.value n f)
     clean n some below e f l = elim (pointer-tells s.extents (at n) f) [
       | inl y ↦ clean-marked z s at p sh g.marks (p.value n f) _ (value-field z s at p sh n f some below y.1)

@@ -118,7 +118,7 @@ module _ (z : Cycle) (s : Shared) (at : Row) (p : Tricolour) (sh : Shows z s at 
 says : (z : Cycle) (s : Shared) (at : Row) (p : Tricolour) → Good z s → Shows z s at p → Invariants p → ThePictureSays z s
 says z s at p good sh i = record {
   globals = λ k l e. global-clean z s at p good.marks sh i k l (ap is_scanned e);
-  blacks = λ o k e l. let n = sh.numbers.all o (good.objects.shaded o (rw e tt)) in
+  blacks = λ o k e l. let n = sh.numbers.all o (good.objects.of_cycle o (good.objects.shaded o (rw e tt))) in
       subst (λ x. IsClean s.colour (seen_field s (x + k))) n.3
       (black-clean z s at p good.marks sh i n.0 k n.1 n.2 (sh.colours n.0 n.1 n.2 ∙ ap shade_of (ap s.colour n.3 ∙ e)) (subst (λ x. IsPointer s.extents x k) (sym n.3) l));
   stacks = λ g d l few e. stack-safe z s at p good.marks sh i g d l few (number (s.words (Cell.Scanned g)) e);

@@ -65,9 +65,9 @@ module _ (z : Cycle) (a : ℕ) (s : Shared) (at : Row) (p : Tricolour) (room : �
       stays-drawn t (shows-still z s at p sh s.words s.colour s.filled t.progress s.passed (λ q k i l. refl) (λ i l. refl) (λ h. refl) (λ q known. refl)
       (λ j. same-progress i (Read a (seen_global s i)) (sym (ap is_scanned may)) j))
 
-  -- what is not placed is not of the cycle
+  -- what is not placed is not known
   pub reserve-drawn : (o : ℕ) → Drawn (Reserve o)
   reserve-drawn o may = let t = moved z a s (Reserve o) in
       stays-drawn t (shows-still z s at p sh t.words t.colour s.filled s.progress s.passed (λ q k i l. refl) (λ i l. refl) (λ h. refl) shade (λ i. refl)) where
-        shade : (q : ℕ) → s.since q ≡ true → shade_of (update s.colour o (Placing a) q) ≡ shade_of (s.colour q)
+        shade : (q : ℕ) → s.known q ≡ true → shade_of (update s.colour o (Placing a) q) ≡ shade_of (s.colour q)
         shade q known = elim (eqb_tells o q) [ inl y ↦ absurd (may.empty (rw (y.1) (g.objects.placed q known))) | inr n ↦ rw (n.0) refl ]

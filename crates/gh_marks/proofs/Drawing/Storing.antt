@@ -23,7 +23,7 @@ module _ (z : Cycle) (a : ℕ) (s : Shared) (at : Row) (p : Tricolour) (room : �
 
     module _ (value : ℕ) (may : May z a s (PutField x value)) where
       named : (v : Option ℕ) × Names at p.objects v (seen_word s.extents.base value)
-      named = numbered s.since at p.objects (seen_word s.extents.base value) sh.numbers may.since
+      named = numbered s.known at p.objects (seen_word s.extents.base value) sh.numbers (λ o e. g.objects.of_cycle o (may.since o e))
 
       abbrev stored : ℕ → ℕ → Option ℕ
       stored = stored_to p 0 named.0 some-stack (names-made z s at p sh named.0 (seen_word s.extents.base value) named.1) (clean-marked z s at p sh g.marks named.0 (seen_word s.extents.base value) named.1 may.new) sh.reads hit (λ n. x - at n) p.objects
@@ -60,7 +60,7 @@ module _ (z : Cycle) (a : ℕ) (s : Shared) (at : Row) (p : Tricolour) (room : �
 
   module _ (i value : ℕ) (may : May z a s (PutGlobal i value)) where
     named_global : (v : Option ℕ) × Names at p.objects v (seen_word s.extents.base value)
-    named_global = numbered s.since at p.objects (seen_word s.extents.base value) sh.numbers may.since
+    named_global = numbered s.known at p.objects (seen_word s.extents.base value) sh.numbers (λ o e. g.objects.of_cycle o (may.since o e))
 
     -- no global of the layout
     past : z.arena.layout.globals ≤ i → IsDrawn z (moved z a s (PutGlobal i value)) p room

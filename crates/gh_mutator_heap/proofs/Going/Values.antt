@@ -3,7 +3,7 @@ use Rattle.std.proofs.Common.{◌≡◌, ℕ, ◌/◌, ◌%◌, ◌<◌, Bool, t
 use Rattle.std.proofs.lemmas.Bool.{cases_Bool, ltb-true, ltb-false}
 use Rattle.std.proofs.lemmas.List.{get_or_past}
 use Rattle.std.proofs.lemmas.Nat.Bits.{bit_at-zero}
-use Rattle.gh_mutator_heap.proofs.Vocabulary.{acted, acting, Answer, answered, answered_at, bit_at, Cycle, Ever, ever_after, Fault, FitsShape, Hands, Heap, HeapGood, holding_only, is_pointer, IsBeside, IsBetween, IsMade, IsOfCycle, IsPointer, KnowsNumber, KnowsStacks, Marking, Name, no_shape, Op, option_to_list, points, Polling, Reach, Shape, shape_at, ShapesAreGood, size_for, Step, Value, view, with_value_if_any}
+use Rattle.gh_mutator_heap.proofs.Vocabulary.{acted, acting, Answer, answered, answered_at, bit_at, Cycle, Ever, ever_after, Fault, FitsShape, Hands, Heap, HeapGood, holding_only, is_pointer, IsBeside, IsBetween, IsKnownObject, IsMade, IsPointer, KnowsNumber, KnowsStacks, Marking, Name, no_shape, Op, option_to_list, points, Polling, Reach, Shape, shape_at, ShapesAreGood, size_for, Step, Value, view, with_value_if_any}
 
 -- The heap that never frees.
 
@@ -37,9 +37,9 @@ pointing_scans shapes good t k pointer = by (ltb t (length shapes)) refl where
   by false l = ap (λ (shape : Shape). shape.noscan) (get_or_past shapes t no_shape (ltb-false _ _ l)) ∙ absurd (let some = subst (λ (shape : Shape). is_pointer shape k ≡ true) (get_or_past shapes t no_shape (ltb-false _ _ l)) pointer in let none = no_bit (k % 64) _ (get_or_past [] (k / 64) 0 (omega arith)) in cc)
 
 module _ (z : Cycle) (h : Heap) (s : Marking) (shapes : ShapesAreGood z.arena.shapes) (good : HeapGood z.arena (view h)) (beside : IsBeside z.arena h s) where
-  -- an object that a script reaches is one of the cycle, with the pointer fields of its type
-  pub of_cycle : (n : Name) → IsMade h.ever.made n → Reach h.ever n → IsOfCycle h s n
-  of_cycle n made reach = record { made = made; placed = good.reached n reach; since = beside.reached n reach }
+  -- an object that a script reaches is known, with the pointer fields of its type
+  pub known_object : (n : Name) → IsMade h.ever.made n → Reach h.ever n → IsKnownObject h s n
+  known_object n made reach = record { made = made; placed = good.reached n reach; known = beside.known n reach }
 
   pub is_pointer_there : (n : Name) (k : ℕ) → IsMade h.ever.made n → Reach h.ever n → k < size_for z.arena.shapes h.ever.type_of n → points z.arena.shapes h.ever.type_of n k ≡ true → IsPointer s.extents (h.place n) k
-  is_pointer_there n k made reach few kind = grind (arith, of_cycle, pointing_scans)
+  is_pointer_there n k made reach few kind = grind (arith, known_object, pointing_scans)

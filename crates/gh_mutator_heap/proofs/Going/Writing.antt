@@ -5,7 +5,7 @@ use Rattle.gh_mutator_heap.proofs.Vocabulary.{acted, acts, Answer, Ask, asks, bi
 use Rattle.gh_barrier.specs.Listing as write
 use Rattle.gh_mutator.specs.MarkVocabulary.{Good, KnowsObjects, Steps}
 use Rattle.gh_mutator_heap.proofs.Going.Known.{by_keeping, found_there, heap_then, Known, processor_then, StepOf}
-use Rattle.gh_mutator_heap.proofs.Going.Values.{of_cycle}
+use Rattle.gh_mutator_heap.proofs.Going.Values.{known_object}
 
 -- no slot is being filled by who writes
 pub write_fills : (z : Cycle) (a : ℕ) (u : Marking) (w : Writing) → Facts z a u nothing w → FillsNone a u
@@ -26,7 +26,7 @@ module _ (k : Known) (z : Cycle) (a : ℕ) (h : Heap) (s : Marking) (shapes : Sh
     below : h.place n + i < 1024 * z.arena.layout.pages
     below =
         let within = (objects (h.place n) (beside.reached n reach)).within in
-        let size = beside.size n (of_cycle z h s shapes good beside n made reach) in
+        let size = beside.size n (known_object z h s shapes good beside n made reach) in
         omega (arith, within, size, few)
 
     pub word_there : (at : ℕ) → at ≡ h.place n → (at + i) % (1024 * z.arena.layout.pages) ≡ h.place n + i
