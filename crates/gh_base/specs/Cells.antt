@@ -2,14 +2,20 @@
 use Rattle.std.specs.Prelude.{◌≡◌, ℕ, ◌+◌, ◌*◌, ◌/◌, ◌<◌, Bool, true, false, ◌==◌, ◌&&◌, if◌then◌else◌, List, length, slice_index}
 use Rattle.gh_base.specs.Vocabulary.{Ack, Alloc, Bank, Begun, Birth, Bitmap, Buffer, Cell, Entry, Field, Gcur, Gen, Global, Heap, Live, Lock, Mark, Page, Phase, Scanned, Slack, Swept, Tally, Touch, Trigger, Want, Work}
 use Rattle.gh_base.specs.declared.layout.Layout.{Layout}
+use Rattle.gh_base.specs.declared.plan.LayoutPlan.{LayoutPlan}
 
--- the layout has these numbers
-pub record IsLayoutOf (pages globals procs workers goroutines : ℕ) (l : Layout) : Type 0 where
-  pub pages_are : l.pages ≡ pages
-  pub globals_are : l.globals ≡ globals
-  pub procs_are : l.procs ≡ procs
-  pub workers_are : l.workers ≡ workers
-  pub goroutines_are : l.goroutines ≡ goroutines
+-- the plan that it is of
+abbrev pub plan_for : Layout → LayoutPlan
+plan_for l = record { opened = l.opened; pages = l.pages; globals = l.globals; procs = l.procs; workers = l.workers; goroutines = l.goroutines }
+
+-- the layout has the plan's numbers
+pub record IsLayoutOf (plan : LayoutPlan) (l : Layout) : Type 0 where
+  pub opened_are : l.opened ≡ plan.opened
+  pub pages_are : l.pages ≡ plan.pages
+  pub globals_are : l.globals ≡ plan.globals
+  pub procs_are : l.procs ≡ plan.procs
+  pub workers_are : l.workers ≡ plan.workers
+  pub goroutines_are : l.goroutines ≡ plan.goroutines
 
 -- a seat an actor: the processors, the workers, the coordinator
 abbrev pub seats_of : Layout → ℕ

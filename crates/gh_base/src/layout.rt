@@ -10,12 +10,13 @@ use crate::cell::{Ask, Cell, Req};
 use crate::limits::{
     LEAST_PAGES, MOST_GLOBALS, MOST_GOROUTINES, MOST_PAGES, MOST_PROCS, MOST_WORKERS,
 };
+use crate::plan::LayoutPlan;
 use thiserror::Error;
 
 /// Why there is no such layout.
 #[derive(Clone, Copy, Debug, PartialEq, Eq, Error)]
 pub enum LayoutFault {
-    /// A number lies outside its limits.
+    /// A number lies outside its limits, or not all pages are in use from the opening on.
     #[error("a number lies outside its limits")]
     Range,
 }
@@ -24,7 +25,10 @@ pub enum LayoutFault {
 /// then the workers, then the coordinator.
 #[derive(Clone, Copy, Debug, PartialEq, Eq)]
 pub struct Layout {
-    /// The arena's pages of 1024 words, 16 to 1024.
+    /// The arena's pages of 1024 words that are in use as the heap opens. Today all are: it is
+    /// `pages`.
+    pub opened: u32,
+    /// The pages of 1024 words that the arena may come to have at most, 16 to 1024.
     pub pages: u32,
     /// The globals, 1 to 256.
     pub globals: u32,
@@ -34,7 +38,7 @@ pub struct Layout {
     pub workers: u32,
     /// The goroutines, 1 to 32.
     pub goroutines: u32,
-    pub ghost limits: { InLimits pages globals procs workers goroutines },
+    pub ghost limits: { InLimits (record { opened = opened; pages = pages; globals = globals; procs = procs; workers = workers; goroutines = goroutines }) },
 }
 
 impl Layout {
@@ -42,36 +46,33 @@ impl Layout {
     ghost use Rattle.gh_base.specs.Cells.{word_of, InRange, length_of, seats_of, buffers_of, IsLayoutOf, alloc_row, mark_row, bitmap_row, birth_row, field_row, global_row, buffer_row, entry_row, ack_row, scanned_row};
     ghost use Rattle.gh_base.specs.Steps.{cell_of, request, target};
 
-    /// A layout of these numbers. It is refused exactly where one lies outside its limits.
-    pub fn new(
-        pages: u32,
-        globals: u32,
-        procs: u32,
-        workers: u32,
-        goroutines: u32,
-    ) -> Result<Layout, LayoutFault>
-        ensures made { IsOk result ↔ InLimits pages globals procs workers goroutines }
-        ensures numbers { IfOk result (IsLayoutOf pages globals procs workers goroutines) }
+    /// A layout of the plan's numbers. It is refused exactly where one lies outside its limits,
+    /// or `opened` is not `pages`.
+    pub fn new(plan: LayoutPlan) -> Result<Layout, LayoutFault>
+        ensures made { IsOk result ↔ InLimits plan }
+        ensures numbers { IfOk result (IsLayoutOf plan) }
     {
-        let in_limits = LEAST_PAGES <= pages
-            && pages <= MOST_PAGES
-            && 1 <= globals
-            && globals <= MOST_GLOBALS
-            && 1 <= procs
-            && procs <= MOST_PROCS
-            && 1 <= workers
-            && workers <= MOST_WORKERS
-            && 1 <= goroutines
-            && goroutines <= MOST_GOROUTINES;
+        let in_limits = plan.opened == plan.pages
+            && LEAST_PAGES <= plan.pages
+            && plan.pages <= MOST_PAGES
+            && 1 <= plan.globals
+            && plan.globals <= MOST_GLOBALS
+            && 1 <= plan.procs
+            && plan.procs <= MOST_PROCS
+            && 1 <= plan.workers
+            && plan.workers <= MOST_WORKERS
+            && 1 <= plan.goroutines
+            && plan.goroutines <= MOST_GOROUTINES;
         if !in_limits {
             return Err(LayoutFault::Range);
         }
         Ok(Layout {
-            pages,
-            globals,
-            procs,
-            workers,
-            goroutines,
+            opened: plan.opened,
+            pages: plan.pages,
+            globals: plan.globals,
+            procs: plan.procs,
+            workers: plan.workers,
+            goroutines: plan.goroutines,
         })
     }
 

@@ -21,6 +21,7 @@ pub mod limits;
 mod machine;
 mod operation;
 mod pack;
+mod plan;
 mod routine;
 mod shape;
 pub mod trace;
@@ -35,6 +36,7 @@ pub use operation::Op;
 pub use pack::{
     BufferWord, END, ENTRIES, GONE, PageWord, Phase, PhaseWord, SpanBody, SpanHead, TallyWord,
 };
+pub use plan::LayoutPlan;
 pub use routine::Routine;
 pub use shape::{Bits, Shape, Shapes};
 pub use value::{Answer, Fault, Name, Value};

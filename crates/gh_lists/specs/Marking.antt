@@ -1,6 +1,7 @@
 -- Where a cycle begins and where its marking ends, and the state of marking after a list of all actors.
 use Rattle.std.specs.Prelude.{◌≡◌, ℕ, ◌⊎◌, Bool, false, List, [], ◌∷◌}
 use Rattle.gh_lists.specs.Vocabulary.{acks_of, Actor, Arena, Close, CoordStage, Entry, Layout, mark_words, Op, Open, row_bit, Setting, state_of, StorePhase, Words, words_after}
+use Rattle.gh_base.specs.Cells.{plan_for}
 use Rattle.gh_base.specs.Limits.{InLimits}
 use Rattle.gh_marks.specs.Colours.{Cycle, Shared}
 use Rattle.gh_marks.specs.Ends.{EachReachedIsMarked, IsDone}
@@ -25,7 +26,7 @@ pub record EndsClean (z : Cycle) (s : Shared) : Type 0 where
 
 -- each number of the layout lies within its limits
 abbrev pub IsInLimits : Layout → Type 0
-IsInLimits l = InLimits l.pages l.globals l.procs l.workers l.goroutines
+IsInLimits l = InLimits (plan_for l)
 
 -- The entries of the one list are the first of the other's, or all of them.
 abbrev pub IsStartOf : (start : List (Entry Op)) → List (Entry Op) → Type 0

@@ -8,7 +8,7 @@ ghost use Rattle.gh_barrier.specs.Sound.{FitsPointer, SoundWriting};
 use crate::runs::{FIELD_ROW, GLOBAL_ROW, MARK_ROW, ONE, PAGE_ROW, words};
 use gh_barrier::{PointerCell, WritePointer};
 use gh_base::trace::run_routine_alone;
-use gh_base::{Held, Layout};
+use gh_base::{Held, Layout, LayoutPlan};
 use std::test::Fail;
 
 /// What field 70 holds, the object at heap word 3077, and what is written, that at heap word 5184: the words of
@@ -114,7 +114,7 @@ const THE_SAME: [&str; 7] = [
 
 #[test]
 fn old_and_new_are_shaded(rt: HostRuntime) -> Result<(), Fail> {
-    let layout = Layout::new(16, 1, 1, 1, 1)?;
+    let layout = Layout::new(LayoutPlan::LEAST)?;
     let field = PointerCell::Field(70);
     let new = Some(NEW);
     // the cell, what the words are and what is written; the steps, and the entries then

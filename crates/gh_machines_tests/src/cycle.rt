@@ -14,7 +14,7 @@ ghost use Rattle.gh_worker.specs.Sound.{SoundWorking};
 ghost use Rattle.gh_world.specs.World.{MadeAtMost};
 
 use crate::lines::{COORDINATOR, Column, NEVER, PROCESSOR, WORKER};
-use gh_base::{Answer, Layout, Name, Op, Routine};
+use gh_base::{Answer, Layout, LayoutPlan, Name, Op, Routine};
 use gh_coord::Coord;
 use gh_mutator::Mutator;
 use gh_script::parse;
@@ -216,7 +216,7 @@ fn a_cycle_keeps_and_frees(rt: HostRuntime) -> Result<(), Fail> {
     let alloc = rt.alloc();
     let script = parse(alloc, SCRIPT.as_bytes())?;
     script.is_well_formed();
-    let layout = Layout::new(16, 1, 1, 1, 1)?;
+    let layout = Layout::new(LayoutPlan::LEAST)?;
     assert!(rt; !script.shapes().rows.is_empty());
     let mut actors = Actors {
         layout,

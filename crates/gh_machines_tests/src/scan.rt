@@ -2,7 +2,7 @@
 
 use crate::runs::{BITMAP_ROW, BUFFER_ROW, FIELD_ROW, MARK_ROW, ONE, PAGE_ROW, TWO, words};
 use gh_base::trace::run_routine_alone;
-use gh_base::{Held, Layout};
+use gh_base::{Held, Layout, LayoutPlan};
 use gh_scan::Scan;
 use std::test::Fail;
 
@@ -68,7 +68,7 @@ const FINDS_ROOM: [&str; 10] = [
 
 #[test]
 fn references_are_shaded(rt: HostRuntime) -> Result<(), Fail> {
-    let layout = Layout::new(16, 1, 1, 1, 1)?;
+    let layout = Layout::new(LayoutPlan::LEAST)?;
     let own = |index, count| Some(Held { index, count });
     // the words that are not 0, the reference and what is held; the words of the slot, the steps, and what is held then
     for (set, reference, held, slot, lines, then) in [

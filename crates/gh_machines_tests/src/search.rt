@@ -5,8 +5,8 @@ ghost use Rattle.gh_alloc.specs.FindSound.{IsSought};
 
 use crate::runs::{has_lines, words};
 use gh_alloc::{CachedSpan, Found, Search, Sought};
-use gh_base::Layout;
 use gh_base::trace::run_routine_alone;
+use gh_base::{Layout, LayoutPlan};
 use gh_class::{Class, SpanClass};
 use std::test::Fail;
 
@@ -98,7 +98,7 @@ const SWEEPS: [(usize, &str); 19] = [
 
 #[test]
 fn pages_are_freed_and_spans_swept(rt: HostRuntime) -> Result<(), Fail> {
-    let layout = Layout::new(16, 1, 1, 1, 1)?;
+    let layout = Layout::new(LayoutPlan::LEAST)?;
     // the class and the words that are not 0; the heap word of the slot, the span's first page, the number of steps, and some of them
     for (number, set, at, head, count, lines) in [
         (20, EMPTY.as_slice(), 0, 0, 316, FREES.as_slice()),

@@ -39,12 +39,14 @@ layout_for p formed =
     let few = formed.few_goroutines in
     record {
       layout = record {
+        opened = p.settings.arena;
         pages = p.settings.arena;
         globals = p.settings.globals;
         procs = p.settings.procs;
         workers = p.settings.workers;
         goroutines = length p.goroutines;
         limits = record {
+          all_opened = refl;
           pages_fit = (omega arith, omega arith);
           globals_fit = (omega arith, omega arith);
           procs_fit = (omega arith, omega arith);
@@ -52,7 +54,7 @@ layout_for p formed =
           goroutines_fit = (omega arith, omega arith);
         };
       };
-      lays_out = record { pages_are = refl; globals_are = refl; procs_are = refl; workers_are = refl; goroutines_are = refl };
+      lays_out = record { opened_are = refl; pages_are = refl; globals_are = refl; procs_are = refl; workers_are = refl; goroutines_are = refl };
     }
 
 module _ (on : RunsGoOn) (whole : RunsEndWhole) (p : Program) (l : Layout) (plan : Plan) (formed : WellFormed p) (lays : LaysOut p l) where

@@ -1,40 +1,32 @@
 -- By one schedule a script's run ends within a budget or does not, and it comes to one outcome.
 use Rattle.std.proofs.Common.{◌≡◌, ℕ, ◌<◌, true, false, List, refl, sym, ap, subst, ◌∙◌, arith}
+use Rattle.std.proofs.Math.Nat.{ℕ_set}
 use Rattle.std.specs.Coded.{le_prop}
 use Rattle.gh_replay.proofs.Vocabulary.{Actor, answers_given, Coordinating, ended_after, Entry, EveryOrderHasOneRun, IsExplained, IsReplayed, IsRun, IsRunSoFar, IsScheduled, Layout, LaysOut, Leads, NotBoth, OneOutcome, Op, Outcome, outcome_by, Plan, Program, setting_of, spent_after}
+use Rattle.gh_base.specs.Cells.{IsLayoutOf, plan_for}
 use Rattle.gh_base.specs.Limits.{InLimits}
+use Rattle.gh_base.specs.declared.plan.LayoutPlan.{LayoutPlan}
+use Rattle.gh_world.specs.World.{layout_plan}
 use Rattle.gh_lists.specs.Order.{ever_of}
 use Rattle.gh_replay.proofs.OneRun.{is_so_far, none_is_longer, one_run}
 
-both : {A B : Type 0} (x y : A × B) → x.0 ≡ y.0 → x.1 ≡ y.1 → x ≡ y
-both x y e f = rw (e, f) refl
+-- a plan lies within its limits in one way
+same_limits : (plan : LayoutPlan) (x y : InLimits plan) → x ≡ y
+same_limits plan = hlevel (le_prop, ℕ_set)
 
-same_limits : (a b c d e : ℕ) (x y : InLimits a b c d e) → x ≡ y
-same_limits a b c d e x y =
-    let pages : x.pages_fit ≡ y.pages_fit = both x.pages_fit y.pages_fit (le_prop x.pages_fit.0 y.pages_fit.0) (le_prop x.pages_fit.1 y.pages_fit.1) in
-    let globals : x.globals_fit ≡ y.globals_fit = both x.globals_fit y.globals_fit (le_prop x.globals_fit.0 y.globals_fit.0) (le_prop x.globals_fit.1 y.globals_fit.1) in
-    let procs : x.procs_fit ≡ y.procs_fit = both x.procs_fit y.procs_fit (le_prop x.procs_fit.0 y.procs_fit.0) (le_prop x.procs_fit.1 y.procs_fit.1) in
-    let workers : x.workers_fit ≡ y.workers_fit = both x.workers_fit y.workers_fit (le_prop x.workers_fit.0 y.workers_fit.0) (le_prop x.workers_fit.1 y.workers_fit.1) in
-    let goroutines : x.goroutines_fit ≡ y.goroutines_fit = both x.goroutines_fit y.goroutines_fit (le_prop x.goroutines_fit.0 y.goroutines_fit.0) (le_prop x.goroutines_fit.1 y.goroutines_fit.1) in
-    rw (pages, globals, procs, workers, goroutines) refl
-
-abbrev layout_with : (a b c d e : ℕ) → InLimits a b c d e → Layout
-layout_with a b c d e x = record { pages = a; globals = b; procs = c; workers = d; goroutines = e; limits = x }
+abbrev layout_with : (plan : LayoutPlan) → InLimits plan → Layout
+layout_with plan x = record { opened = plan.opened; pages = plan.pages; globals = plan.globals; procs = plan.procs; workers = plan.workers; goroutines = plan.goroutines; limits = x }
 
 -- a layout is its numbers
-layout_is : (l : Layout) (a b c d e : ℕ) → l.pages ≡ a → l.globals ≡ b → l.procs ≡ c → l.workers ≡ d → l.goroutines ≡ e → (x : InLimits a b c d e) → l ≡ layout_with a b c d e x
-layout_is l a b c d e p g r w h =
-    subst (λ (v : ℕ). (x : InLimits a b c d v) → l ≡ layout_with a b c d v x) h
-    (subst (λ (v : ℕ). (x : InLimits a b c v l.goroutines) → l ≡ layout_with a b c v l.goroutines x) w
-    (subst (λ (v : ℕ). (x : InLimits a b v l.workers l.goroutines) → l ≡ layout_with a b v l.workers l.goroutines x) r
-    (subst (λ (v : ℕ). (x : InLimits a v l.procs l.workers l.goroutines) → l ≡ layout_with a v l.procs l.workers l.goroutines x) g
-    (subst (λ (v : ℕ). (x : InLimits v l.globals l.procs l.workers l.goroutines) → l ≡ layout_with v l.globals l.procs l.workers l.goroutines x) p
-    (λ x. ap (layout_with l.pages l.globals l.procs l.workers l.goroutines) (same_limits l.pages l.globals l.procs l.workers l.goroutines l.limits x))))))
+layout_is : (l : Layout) (plan : LayoutPlan) → plan_for l ≡ plan → (x : InLimits plan) → l ≡ layout_with plan x
+layout_is l plan is = subst (λ (p : LayoutPlan). (x : InLimits p) → l ≡ layout_with p x) is (λ x. ap (layout_with (plan_for l)) (same_limits (plan_for l) l.limits x))
+
+-- and they are those that it was laid out with
+numbers_are : (plan : LayoutPlan) (l : Layout) → IsLayoutOf plan l → plan_for l ≡ plan
+numbers_are plan l is = rw (is.opened_are, is.pages_are, is.globals_are, is.procs_are, is.workers_are, is.goroutines_are) refl
 
 same_layout : (p : Program) (l k : Layout) → LaysOut p l → LaysOut p k → l ≡ k
-same_layout p l k a b =
-    layout_is l k.pages k.globals k.procs k.workers k.goroutines (a.pages_are ∙ sym b.pages_are) (a.globals_are ∙ sym b.globals_are) (a.procs_are ∙ sym b.procs_are) (a.workers_are ∙ sym b.workers_are)
-    (a.goroutines_are ∙ sym b.goroutines_are) k.limits
+same_layout p l k a b = layout_is l (plan_for k) (numbers_are (layout_plan p) l a ∙ sym (numbers_are (layout_plan p) k b)) k.limits
 
 same_lead : (c d : Coordinating) → ◌≡◌ {A = Actor} (Leads c) (Leads d) → c ≡ d
 same_lead c d e = cc

@@ -12,34 +12,16 @@ use crate::fault::OpenFault;
 use crate::handle::Handle;
 use crate::heap::Heap;
 use gh_actor::{ActorMachine, Counts, HeapActor, HeapPlan};
-use gh_base::{Layout, Op};
+use gh_base::Op;
 use gh_coord::Coord;
 use gh_mutator::Mutator;
 use gh_script::Script;
 use gh_table::{ActorSeat, Hand, open, split_first};
 use gh_words::opening_list;
 use gh_worker::Worker;
-use gh_world::{most_cycles, opening_trigger};
+use gh_world::{layout_for, most_cycles, opening_trigger};
 use std::alloc::{AllocError, Global};
 use std::snapshot::Snapshot;
-
-/// The layout of the script's heap.
-fn layout_of(script: &Script) -> Layout
-    ensures { LaysOut script.now result }
-{
-    script.is_well_formed();
-    let settings = script.settings();
-    match Layout::new(
-        settings.arena,
-        settings.globals,
-        settings.procs,
-        settings.workers,
-        script.goroutines(),
-    ) {
-        Ok(layout) => layout,
-        Err(_) => unreachable!(),
-    }
-}
 
 /// The machine of the actor of this number, before its first step.
 fn machine_at<'s>(
@@ -81,7 +63,7 @@ impl Heap {
         ensures heap { IfOk result (λ r. IsHeapOf script.now r.0) }
         ensures handles { IfOk result (λ r. AreFresh r.0 r.1.items) }
     {
-        let layout = layout_of(script);
+        let layout = layout_for(script);
         let plan = HeapPlan {
             script: Snapshot::of(script),
             layout,

@@ -1,7 +1,8 @@
 //! Where the words of a heap lie, and what is packed into them: the numbers that the definitions stand for.
 
 use gh_base::{
-    BufferWord, Cell, Layout, Name, PageWord, Phase, PhaseWord, SpanBody, SpanHead, TallyWord,
+    BufferWord, Cell, Layout, LayoutPlan, Name, PageWord, Phase, PhaseWord, SpanBody, SpanHead,
+    TallyWord,
 };
 use gh_class::{Class, SizeClass};
 use std::test::Fail;
@@ -63,7 +64,7 @@ fn packed(class: Class) -> [u64; 7] {
 
 #[test]
 fn rows_lie_one_behind_the_other_and_words_are_packed(rt: HostRuntime) -> Result<(), Fail> {
-    let layout = Layout::new(16, 1, 1, 1, 1)?;
+    let layout = Layout::new(LayoutPlan::LEAST)?;
     assert_eq!(rt;
         (layout.seats(), layout.buffers(), layout.words()),
         (3, 69, 51_097)

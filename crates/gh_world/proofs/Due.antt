@@ -1,7 +1,7 @@
 -- What is due in a world's turns may begin: it is in range, there is a name for what it makes, and its goroutine goes on.
 use Rattle.std.proofs.Common.{◌≡◌, ℕ, ◌+◌, ◌<◌, ◌≤◌, Bool, true, false, ltb, ◌&&◌, List, [], length, refl, subst, Option, Some, None, arith, slice_get}
 use Rattle.std.proofs.lemmas.Bool.{lt-ltb}
-use Rattle.gh_world.proofs.Vocabulary.{All-get_or, AreStatements, bit, count_of, ended_in, ends, Entry, get_or_from_slice_get, goroutine_is_over, goroutine_of, goroutine_there, has_left_at, has_names, in_range, is_busy_at, is_leave, is_leaving, is_statement, IsLayoutOf, IsPast, IsStatement, its_goroutine, Layout, leave_is_begun, leaves, MadeAtMost, MayBeOver, most_objects, nat_tests, Next, no_goroutine, Op, op_due, Processor, Program, Shape, SoundOp, Stands, statement_as_op, statements_among, statements_of, Stmt, Task, to_come, total_of, WellFormed, work_at, work_of}
+use Rattle.gh_world.proofs.Vocabulary.{All-get_or, AreStatements, bit, count_of, ended_in, ends, Entry, get_or_from_slice_get, goroutine_is_over, goroutine_of, goroutine_there, has_left_at, has_names, in_range, is_busy_at, is_leave, is_leaving, is_statement, IsPast, IsStatement, its_goroutine, Layout, LaysOut, leave_is_begun, leaves, MadeAtMost, MayBeOver, most_objects, nat_tests, Next, no_goroutine, Op, op_due, Processor, Program, Shape, SoundOp, Stands, statement_as_op, statements_among, statements_of, Stmt, Task, to_come, total_of, WellFormed, work_at, work_of}
 use Rattle.gh_world.proofs.Turning.{has_statement}
 
 -- an operation that is in range of the layout
@@ -23,7 +23,7 @@ are_statements p g lt r = All-get_or (AreStatements p.settings.globals (length p
 pub few_statements : (p : Program) → WellFormed p → total_of p ≤ 200000
 few_statements p r = r.few_statements
 
-module _ (p : Program) (l : Layout) (r : WellFormed p) (lay : IsLayoutOf p.settings.arena p.settings.globals p.settings.procs p.settings.workers (length p.goroutines) l) where
+module _ (p : Program) (l : Layout) (r : WellFormed p) (lay : LaysOut p l) where
   work_runs : (g n : ℕ) (s : Option Stmt) → g < length p.goroutines → slice_get (statements_of p g) n ≡ s → Runs p.shapes l (work_at g s)
   work_runs g n None lt e = let there : g < l.goroutines = omega (arith, lay.goroutines_are) in record { sound = there; ranged = lt-ltb _ _ there }
   work_runs g n (Some s) lt e =

@@ -46,7 +46,7 @@ pub use Rattle.gh_world.specs.Runs.{acted_by, actors_in, drawn_of, EveryOrderHas
 pub use Rattle.gh_world.specs.Schedule.{ended_after, first_going, has_ended, in_order_from, IsInTurn, next_in, turn_from}
 pub use Rattle.gh_world.specs.Turns.{answers_to, count_of, Follows, has_turn, HasTurn, is_leave, is_of_seat, is_poll_due, is_run_due, is_statement_of, is_unacted, IsPast, its_goroutine, later, leave_is_begun, MayBeOver, next_point, op_due, round_of, Stands, statement_count, statement_now, statements_among, to_come, total_by, total_of, turn_of}
 unfoldable pub use Rattle.gh_world.specs.Turns.{turns_of}
-pub use Rattle.gh_world.specs.Vocabulary.{acks_of, Act, acted, acted_at, acted_in, Actor, acts, Answer, Answered, arena_of, Ask, before_step, begun_in, bit, by, deeds, ended_in, Entry, Event, ever_of, filter, flat_map, gives_at, Goroutine, goroutine_is_over, goroutine_of, has_left, has_left_at, has_more, has_point, in_range, InRange, is_busy_at, is_last, is_leaving, is_of, is_point, is_serving, is_statement, IsFullFor, IsLayoutOf, Layout, Legal, length_of, made_by, may_begin, may_leave, meaning, MOST_GOROUTINES, Next, Op, op_at, order_of, Processor, processor_kind, Program, Progress, range_with_len, Runner, Shape, ShowsCells, started, state_of, statement_answer, statement_as_op, statement_at, statements_in, statements_of, takes, Task, WellFormed, Words, words_after, work_of}
+pub use Rattle.gh_world.specs.Vocabulary.{acks_of, Act, acted, acted_at, acted_in, Actor, acts, Answer, Answered, arena_of, Ask, before_step, begun_in, bit, by, deeds, ended_in, Entry, Event, ever_of, filter, flat_map, gives_at, Goroutine, goroutine_is_over, goroutine_of, has_left, has_left_at, has_more, has_point, in_range, InRange, is_busy_at, is_last, is_leaving, is_of, is_point, is_serving, is_statement, IsFullFor, Layout, Legal, length_of, made_by, may_begin, may_leave, meaning, MOST_GOROUTINES, Next, Op, op_at, order_of, Processor, processor_kind, Program, Progress, range_with_len, Runner, Shape, ShowsCells, started, state_of, statement_answer, statement_as_op, statement_at, statements_in, statements_of, takes, Task, WellFormed, Words, words_after, work_of}
 pub use Rattle.gh_world.specs.Wishes.{may_ask, most_cycles, wishes_among, wishes_in, wishes_of}
 pub use Rattle.gh_world.specs.World.{actor_after, actor_of, actors_of, AllDone, answer_in, answered_by, answered_in, answered_of, AreOpening, AreTurns, begun_as, ComesNext, counts_after, done_or, event_at, event_by, event_of, found_by, found_for, given_for, is_done, IsOpening, IsStepOfCoordinator, IsStepOfProcessor, IsStepOfWorker, last_after, LaysOut, MadeAtMost, making, marks_at, marks_by, marks_of, now_by, now_in, now_of, op_at_turn, opening_progress, points_in, Polled, progress_after, Ran, runner_or, setting_of, setup_of, SoundOthers, SoundRunners, SoundState, SoundTurns, SoundWords, State, stated_after, stated_by, told_event, turn_in, with_goroutine, worker_or, workers_at}
 pub use Rattle.gh_world.specs.declared.event.Event.TheVariants.{Moved}

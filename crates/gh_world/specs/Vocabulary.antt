@@ -8,6 +8,7 @@ pub use Rattle.gh_base.specs.declared.cell.Ask.{Ask}
 pub use Rattle.gh_base.specs.declared.layout.Layout.{Layout}
 pub use Rattle.gh_base.specs.declared.limits.TheConstants.{MOST_GOROUTINES}
 pub use Rattle.gh_base.specs.declared.machine.Entry.{Entry}
+pub use Rattle.gh_base.specs.declared.plan.LayoutPlan.{LayoutPlan}
 pub use Rattle.gh_base.specs.declared.operation.Op.{Op}
 pub use Rattle.gh_base.specs.declared.shape.Shape.{Shape}
 pub use Rattle.gh_base.specs.declared.value.Answer.{Answer}

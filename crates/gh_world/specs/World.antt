@@ -1,7 +1,7 @@
 -- The world of the processors, the workers and the coordinator: what a list of their steps is answered, and that it is the state of such a list.
 use Rattle.std.specs.Prelude.{◌≡◌, ℕ, ◌+◌, ◌<◌, ◌≤◌, Bool, true, false, ◌==◌, if◌then◌else◌, not, List, [], ◌∷◌, ◌++◌, length, map, replicate, slice_index, slice_set, slice_get, ◌-◌, Option, Some, None, is_some, sum_by}
 use Rattle.std.specs.Option.{option_to_list}
-use Rattle.gh_world.specs.Vocabulary.{Actor, acts, Answer, arena_of, Ask, before_step, begun_in, bit, by, Cycle, Entry, Event, InRange, is_busy_at, is_last, is_leaving, is_point, is_serving, is_statement, IsLayoutOf, Layout, length_of, made_by, may_begin, MOST_GOROUTINES, Next, Op, op_at, Processor, processor_kind, Program, Progress, range_with_len, Runner, Setting, Shape, started, state_of, statement_answer, Task, WellFormed}
+use Rattle.gh_world.specs.Vocabulary.{Actor, acts, Answer, arena_of, Ask, before_step, begun_in, bit, by, Cycle, Entry, Event, InRange, is_busy_at, is_last, is_leaving, is_point, is_serving, is_statement, IsLayoutOf, Layout, LayoutPlan, length_of, made_by, may_begin, MOST_GOROUTINES, Next, Op, op_at, Processor, processor_kind, Program, Progress, range_with_len, Runner, Setting, Shape, started, state_of, statement_answer, Task, WellFormed}
 use Rattle.gh_mutator.specs.declared.new.NewStage.TheVariants.{Assist, Place, Want}
 use Rattle.gh_base.specs.Steps.{cell_of, changed, request, target}
 use Rattle.gh_mutator.specs.declared.new.NewStage.{NewStage}
@@ -44,9 +44,13 @@ given_for p l = record { shapes = p.shapes; layout = l; pacing = pacing_of p; co
 abbrev pub setting_of : Program → Layout → Setting Actor Op
 setting_of p l = those (setup_of p l)
 
+-- the numbers of the script's heap: those of its settings, all pages in use from the opening on, and how many goroutines it has
+abbrev pub layout_plan : Program → LayoutPlan
+layout_plan p = record { opened = p.settings.arena; pages = p.settings.arena; globals = p.settings.globals; procs = p.settings.procs; workers = p.settings.workers; goroutines = length p.goroutines }
+
 -- the layout is that of the script's settings
 abbrev pub LaysOut : Program → Layout → Type 0
-LaysOut p l = IsLayoutOf p.settings.arena p.settings.globals p.settings.procs p.settings.workers (length p.goroutines) l
+LaysOut p l = IsLayoutOf (layout_plan p) l
 
 -- ---- what an entry says
 

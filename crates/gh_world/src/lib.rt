@@ -37,4 +37,4 @@ pub use laws::{cycles_have_room, points_are_statements, what_is_due_fits};
 pub use progress::Progress;
 pub use turns::{Next, total_of};
 pub use wishes::{most_cycles, wishes_of};
-pub use world::{World, opening_trigger};
+pub use world::{World, layout_for, opening_trigger};

@@ -28,7 +28,7 @@ use crate::runner::Runner;
 use crate::turns::total_of;
 use crate::wishes::most_cycles;
 use gh_base::laws::{a_state_is_of_its_own_entries, steps_are_shown};
-use gh_base::{Answer, Ask, Cell, Layout, Op, Routine};
+use gh_base::{Answer, Ask, Cell, Layout, LayoutPlan, Op, Routine};
 use gh_coord::laws::it_goes_on_until_done;
 use gh_coord::{Coord, Cycle, first_trigger};
 use gh_mutator::Processor;
@@ -183,6 +183,26 @@ fn step_of_coordinator(layout: &Layout, words: &mut Plain, machine: &mut Coord) 
     None
 }
 
+/// The layout of the script's heap: all pages of its arena are in use from the opening on.
+pub fn layout_for(script: &Script) -> Layout
+    ensures { LaysOut script.now result }
+{
+    script.is_well_formed();
+    let settings = script.settings();
+    let plan = LayoutPlan {
+        opened: settings.arena,
+        pages: settings.arena,
+        globals: settings.globals,
+        procs: settings.procs,
+        workers: settings.workers,
+        goroutines: script.goroutines(),
+    };
+    match Layout::new(plan) {
+        Ok(layout) => layout,
+        Err(_) => unreachable!(),
+    }
+}
+
 /// The word that the trigger of the script's heap opens with, in bytes: the coordinator's first.
 pub fn opening_trigger(script: &Script, layout: &Layout) -> u64
     requires { LaysOut script.now layout.now }
@@ -202,17 +222,7 @@ impl<'s> World<'s> {
     {
         script.is_well_formed();
         let settings = script.settings();
-        let goroutines = script.goroutines();
-        let layout = match Layout::new(
-            settings.arena,
-            settings.globals,
-            settings.procs,
-            settings.workers,
-            goroutines,
-        ) {
-            Ok(layout) => layout,
-            Err(_) => unreachable!(),
-        };
+        let layout = layout_for(script);
         let trigger = opening_trigger(script, &layout);
         let words = Plain::new(alloc, &layout, trigger)?;
         let runners = runners_of(alloc, &layout, script)?;
