@@ -139,12 +139,12 @@ Words = Cell → ℕ
 abbrev pub put : Words → Cell → ℕ → Words
 put words cell value at = if same_cell cell at then value else words at
 
--- what the heap opens with: 0 everywhere, save the sweep generation, the slack and the trigger
-abbrev pub opening_words : ℕ → Words
-opening_words trigger Gen = 2
-opening_words trigger Slack = 1
-opening_words trigger Trigger = trigger
-opening_words trigger _ = 0
+-- what a heap of this layout opens with: 0 everywhere, save the sweep generation, the slack and the trigger
+abbrev pub opening_words : Layout → (trigger : ℕ) → Words
+opening_words l trigger Gen = 2
+opening_words l trigger Slack = 1
+opening_words l trigger Trigger = trigger
+opening_words l trigger _ = 0
 
 -- this list of words is these cells
 pub record ShowsCells (l : Layout) (list : List ℕ) (words : Words) : Type 0 where

@@ -16,7 +16,7 @@ pub record WordsAreAtRest (z : Arena) (number : ℕ) (h : Heap) : Type 0 where
 
 -- A heap that was just opened is so before its first cycle.
 abbrev pub OpenedHeapsAreAtRest : Type 0
-OpenedHeapsAreAtRest = (z : Arena) (trigger number : ℕ) (h : Heap) → 0 < number → h.words ≡ opening_words trigger → WordsAreAtRest z number h
+OpenedHeapsAreAtRest = (z : Arena) (trigger number : ℕ) (h : Heap) → 0 < number → h.words ≡ opening_words z.layout trigger → WordsAreAtRest z number h
 
 -- A state of marking is that of this heap: the words are the same, and what is known is what a script reaches, each object with the words of its type.
 pub record IsCycleOf (z : Arena) (h : Heap) (s : Marking) : Type 0 where

@@ -19,7 +19,7 @@ pub use Rattle.gh_heap.specs.Spans.{Freeing, IsSlotOf, Laying}
 pub use Rattle.gh_holds.specs.ActorsHold.{EndedSo, HasCleared, HasCursor, HasEnded, HasRead, Holds, HoldsAt, IsBegun, IsClosing, IsCounting, IsNewThere, IsOff, IsOpening, IsQuiet, IsRead, IsReady, IsSweeping, IsTold, NobodyMarks, page_at, Walks, WalksAt, WasSo}
 pub use Rattle.gh_holds.specs.EveryList.{HoldsAfter, InCycles}
 pub use Rattle.gh_holds.specs.Objects.{AllWereCounted, EndsAllMarked, EndsMarked, FreesTheUnreached, FreesWithinTwo, IsMarkedObject, LeavesTheReached, StandsSoFar, StandsThrough, StandsUntilItsEnd, WasCounted}
-pub use Rattle.gh_holds.specs.Vocabulary.{alloc_at, alloc_words, Arena, arena, birth_words, Cell, Check, Close, CloseStage, Coordinating, CoordStage, Count, CycleEnd, Done, END, EndsClean, EndsCycle, Entry, Ever, ever, generation_of, Given, Good, HasState, Heap, in_all, IsEnding, IsHeapOf, IsInCycle, IsLed, IsMade, IsMarking, IsOf, IsPlacedAt, IsStartOf, IsTelling, IsUnderWay, Known, Legal, ListsKnown, live_at, LoadAck, LoadWant, mark_words, MarkOn, marks_at, Name, Op, Open, opening_words, page_words, Placed, placed, Processor, processor_at, Reach, Setup, setup_for, size_for, Stop, StopAgain, Sweep, Tell, TellStage, those, view, Watch, Words, words}
+pub use Rattle.gh_holds.specs.Vocabulary.{alloc_at, alloc_words, Arena, arena, birth_words, Cell, Check, Close, CloseStage, Coordinating, CoordStage, Count, CycleEnd, Done, END, EndsClean, EndsCycle, Entry, Ever, ever, first_words, generation_of, Given, Good, HasState, Heap, in_all, IsEnding, IsHeapOf, IsInCycle, IsLed, IsMade, IsMarking, IsOf, IsPlacedAt, IsStartOf, IsTelling, IsUnderWay, Known, Legal, ListsKnown, live_at, LoadAck, LoadWant, mark_words, MarkOn, marks_at, Name, Op, Open, page_words, Placed, placed, Processor, processor_at, Reach, Setup, setup_for, size_for, Stop, StopAgain, Sweep, Tell, TellStage, those, view, Watch, Words, words}
 unfoldable pub use Rattle.gh_holds.specs.Vocabulary.{row_bit}
 pub use Rattle.gh_lists.specs.Counting.{rises}
 pub use Rattle.gh_lists.specs.Going.{at_seat, goes_then, keeps_last, last_was, led_then, NotAcks}

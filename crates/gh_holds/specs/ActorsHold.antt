@@ -1,6 +1,6 @@
 -- What holds after every list of all actors, by the coordinator's stage: while no cycle is under way, spans being swept or not, nobody marks; while a cycle is opened the world is stopped; and while it is marked it is known to marking.
 use Rattle.std.specs.Prelude.{◌≡◌, ℕ, ◌+◌, ◌^◌, ◌<◌, ◌⊎◌, true, List, None}
-use Rattle.gh_holds.specs.Vocabulary.{alloc_at, alloc_words, Arena, arena, Cell, Check, Close, CloseStage, Coordinating, CoordStage, Count, CycleEnd, Done, END, EndsCycle, Entry, ever, freed_at, FullOnlyThere, generation_of, in_all, IsLed, IsMade, IsPlacedAt, IsStartOf, IsUnderWay, kept_at, live_at, LoadAck, LoadWant, mark_words, MarkOn, marks_at, Name, Op, Open, opening_words, Processor, row_bit, Setup, Stop, StopAgain, Sweep, Tell, TellStage, Watch, Words, words}
+use Rattle.gh_holds.specs.Vocabulary.{alloc_at, alloc_words, Arena, arena, Cell, Check, Close, CloseStage, Coordinating, CoordStage, Count, CycleEnd, Done, END, EndsCycle, Entry, ever, first_words, freed_at, FullOnlyThere, generation_of, in_all, IsLed, IsMade, IsPlacedAt, IsStartOf, IsUnderWay, kept_at, live_at, LoadAck, LoadWant, mark_words, MarkOn, marks_at, Name, Op, Open, Processor, row_bit, Setup, Stop, StopAgain, Sweep, Tell, TellStage, Watch, Words, words}
 use Rattle.gh_coord.specs.declared.count.CountStage.{CountStage}
 use Rattle.gh_coord.specs.declared.open.OpenStage.{OpenStage}
 use Rattle.gh_coord.specs.declared.sweep_all.SweepAllStage.{SweepAllStage}
@@ -65,7 +65,7 @@ module _ (setup : Setup) where
 
   -- what was said before of the list's starts
   pub record WasSo (es : List (Entry Op)) : Type 0 where
-    pub full : FullOnlyThere z (opening_words setup.pacing.trigger) es
+    pub full : FullOnlyThere z (first_words setup) es
     pub frees : FreesTheUnreached setup es
     pub ends : EndsAllMarked setup es
 

@@ -1,6 +1,6 @@
 -- What becomes of objects in lists of steps of all actors: which are marked where a cycle's marking ends, which stand until then, which are freed, and which are counted and left.
 use Rattle.std.specs.Prelude.{◌≡◌, ◌↔◌, ℕ, ◌+◌, ◌*◌, ◌<◌, ◌≤◌, true, List, ◌∷◌, slice_get, Some, ◌⊎◌}
-use Rattle.gh_holds.specs.Vocabulary.{alloc_words, Arena, arena_of, at_seat, Cell, Coordinating, CoordStage, Done, END, EndsClean, Entry, Ever, IsEnding, IsMade, IsPlacedAt, IsStartOf, IsStateOf, mark_words, Name, Op, opening_words, page_words, placed, Reach, row_bit, Setup, StandsForThese, Tell, Words}
+use Rattle.gh_holds.specs.Vocabulary.{alloc_words, Arena, arena_of, at_seat, Cell, Coordinating, CoordStage, Done, END, EndsClean, Entry, Ever, first_words, IsEnding, IsMade, IsPlacedAt, IsStartOf, IsStateOf, mark_words, Name, Op, page_words, placed, Reach, row_bit, Setup, StandsForThese, Tell, Words}
 use Rattle.gh_coord.specs.declared.cycles.Cycle.{Cycle as CycleNumbers}
 use Rattle.gh_coord.specs.Handshake as leading
 use Rattle.gh_marks.specs.Colours.{Cycle, Shared}
@@ -102,7 +102,7 @@ module _ (setup : Setup) where
 
   -- each has one address, its slot and its values, and shares no word with another; and no two are placed at one address
   pub record StandApart (es : List (Entry Op)) : Type 0 where
-    pub stand : StandsForThese arena (IsStanding es) (words es) (ever es) (at_seat arena (opening_words setup.pacing.trigger) es)
+    pub stand : StandsForThese arena (IsStanding es) (words es) (ever es) (at_seat arena (first_words setup) es)
     pub one_name : (n m : Name) (a : ℕ) → IsMade (ever es).made n → IsMade (ever es).made m → IsPlacedAt (words es) n a → IsPlacedAt (words es) m a → n ≡ m
 
   -- the numbers of a cycle are those of the objects that were placed and marked where it ended, and of those placed and not marked

@@ -44,7 +44,7 @@ pub use Rattle.gh_law.specs.Room.{AnotherSteps, FindsItGone, FindsNoRoom, IsEntr
 pub use Rattle.gh_law.specs.Scans.{ScansIn, ScansOnce}
 pub use Rattle.gh_law.specs.Searches.{EndsWithoutRoom, HasNoRoom, NoneMeansNoRoom}
 pub use Rattle.gh_law.specs.SweepMarks.{CachedAreSwept, EachSpanIsSwept, HoldsItsOwn, IsOwnSpan, IsRunning, IsUncut, MarksAreLeft, OwnedAreSwept, SaysHowFar, SpansAreNumbered, SweepsStand}
-pub use Rattle.gh_law.specs.Vocabulary.{acks_of, Actor, actors, actors_after, answers_of, Ask, before_step, Begins, begun_in, by, Cell, Coordinating, Done, Entry, Ever, Given, given_of, InRange, IsBeginning, IsInLimits, IsLed, IsPlacedAt, IsStartOf, Layout, Legal, ListStands, Name, only_polls, Op, Open, opening_words, Or, own, place_of, Processor, Reach, scanned_in, seats_of, Setup, setup_for, ShapesAreGood, started, state_of, Store, those, total, Words, words}
+pub use Rattle.gh_law.specs.Vocabulary.{acks_of, Actor, actors, actors_after, answers_of, Ask, before_step, Begins, begun_in, by, Cell, Coordinating, Done, Entry, Ever, first_words, Given, given_of, InRange, IsBeginning, IsInLimits, IsLed, IsPlacedAt, IsStartOf, Layout, Legal, ListStands, Name, only_polls, Op, Open, Or, own, place_of, Processor, Reach, scanned_in, seats_of, Setup, setup_for, ShapesAreGood, started, state_of, Store, those, total, Words, words}
 pub use Rattle.gh_lists.specs.Changes.{begins, Change, ends, Rises, same, tells}
 pub use Rattle.gh_lists.specs.Going.{ClosingIsBusy, goes_then, led_then}
 pub use Rattle.gh_lists.specs.Handshake.{actor_takes, KeepsIt, start}

@@ -1,6 +1,6 @@
 -- Lists of steps of all actors of a heap, the newest first: processors, workers and the coordinator. Which are legal, and what every legal one keeps: the words stand for the heap that never frees, each cycle frees what no script reached where it began, and who waits for a cycle goes on once one that began later is swept.
 use Rattle.std.specs.Prelude.{◌≡◌, ℕ, ◌<◌, ◌≤◌, true, List, [], ◌∷◌, ◌++◌, Option, Some}
-use Rattle.gh_law.specs.Vocabulary.{Actor, actors, actors_after, arena_of, asks, before_step, Begins, begun_in, by, Coordinating, Done, Entry, Ever, FewAreScanned, Given, GlobalsAreCounted, InRange, is_busy, IsInLimits, IsStartOf, Legal, ListStands, MOST_STATEMENTS, Op, opening_words, seats_of, Setup, setup_for, ShapesAreGood, started, those, total, Words}
+use Rattle.gh_law.specs.Vocabulary.{Actor, actors, actors_after, arena_of, asks, before_step, Begins, begun_in, by, Coordinating, Done, Entry, Ever, FewAreScanned, first_words, Given, GlobalsAreCounted, InRange, is_busy, IsInLimits, IsStartOf, Legal, ListStands, MOST_STATEMENTS, Op, seats_of, Setup, setup_for, ShapesAreGood, started, those, total, Words}
 use Rattle.gh_mutator.specs.Listing.{Act, gives}
 use Rattle.gh_base.specs.Steps.{cell_of}
 use Rattle.gh_mutator.specs.Deeds.{deeds, processor_kind}
@@ -124,7 +124,7 @@ module _ (setup : Setup) where
   StepsWithin es = (a : ℕ) (o : Option Op) → MayStep es a o → InRange setup.layout (cell_of (asks setup.layout (next_of es a o)))
 
   pub record AllStands (es : List (Entry Op)) : Type 0 where
-    pub stands : ListStands arena (opening_words setup.pacing.trigger) es
+    pub stands : ListStands arena (first_words setup) es
     -- whichever search for a slot ends without room, the first of a `new` or the one after its wait, there was none
     pub no_room : NoneMeansNoRoom setup es
     pub awaits : Awaits es

@@ -1,6 +1,6 @@
 -- Phases, in every legal list of steps of all actors: what each actor knows of them, who marks and when, and that nobody but the coordinator moves in a stopped world.
 use Rattle.std.specs.Prelude.{◌≡◌, ◌≢◌, ◌↔◌, ℕ, ◌<◌, true, List, ◌∷◌, None}
-use Rattle.gh_law.specs.Vocabulary.{acks_of, Actor, actors_after, answers_of, arena_of, Ask, Cell, Coordinating, Entry, given_of, GONE, IsExact, IsLedBy, IsStartOf, only_polls, Op, opening_words, place_of, Processor, Setup, WaitsWithNone, Words, words_after}
+use Rattle.gh_law.specs.Vocabulary.{acks_of, Actor, actors_after, answers_of, arena_of, Ask, Cell, Coordinating, Entry, first_words, given_of, GONE, IsExact, IsLedBy, IsStartOf, only_polls, Op, place_of, Processor, Setup, WaitsWithNone, Words, words_after}
 use Rattle.gh_phase.specs.declared.resume.ResumeStage.{ResumeStage}
 use Rattle.gh_phase.specs.declared.view.RunPhase.{RunPhase}
 use Rattle.gh_phase.specs.declared.view.RunPhase.TheVariants.{Finished, Mark}
@@ -38,7 +38,7 @@ pub record WorkerStandsEmpty (w : Working) : Type 0 where
 -- A heap that is set up so.
 module _ (setup : Setup) where
   abbrev told : List (Entry Op) → Words
-  told es = words_after (opening_words setup.pacing.trigger) es
+  told es = words_after (first_words setup) es
 
   abbrev IsLed : List (Entry Op) → Coordinating → Type 0
   IsLed es c = IsLedBy (arena_of setup.shapes setup.layout) setup.pacing setup.may es c
@@ -61,7 +61,7 @@ module _ (setup : Setup) where
       pub workers : (a : ℕ) (w : Working) → at es a ≡ Actor.Marks w → IsAwake (working.stage_of w) → IsCurrent (last_phase es) (told es) (working.party_of w).view
       -- who is not awake stands empty until it has gone on; a processor has given each answer that its operations have had
       pub resuming : (a : ℕ) (m : Processor) (stops : ℕ) (stage : ResumeStage) → at es a ≡ Actor.Runs m → stage_of m ≡ Resumes stops stage → StandsEmpty m
-      pub answered : (a : ℕ) (m : Processor) (stops : ℕ) (stage : ResumeStage) → at es a ≡ Actor.Runs m → stage_of m ≡ Resumes stops stage → answers_of (arena_of setup.shapes setup.layout) (opening_words setup.pacing.trigger) a es ≡ given_of (arena_of setup.shapes setup.layout) (opening_words setup.pacing.trigger) a es
+      pub answered : (a : ℕ) (m : Processor) (stops : ℕ) (stage : ResumeStage) → at es a ≡ Actor.Runs m → stage_of m ≡ Resumes stops stage → answers_of (arena_of setup.shapes setup.layout) (first_words setup) a es ≡ given_of (arena_of setup.shapes setup.layout) (first_words setup) a es
       pub workers_resuming : (a : ℕ) (w : Working) (stops : ℕ) (stage : ResumeStage) → at es a ≡ Actor.Marks w → working.stage_of w ≡ Resumes stops stage → WorkerStandsEmpty w
 
     -- Who marks.

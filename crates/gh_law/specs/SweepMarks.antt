@@ -1,6 +1,6 @@
 -- What the numbers of spans say, and which marks and objects a sweep has left, in every legal list of steps of all actors: over the words.
 use Rattle.std.specs.Prelude.{◌≡◌, ◌≢◌, ◌↔◌, ℕ, ◌+◌, ◌*◌, ◌/◌, ◌<◌, ◌≤◌, ◌⊎◌, true, false, List, Option, Some}
-use Rattle.gh_law.specs.Vocabulary.{actors_after, arena_of, at_seat, Cell, Coordinating, Entry, Ever, ever_after_list, IsBeginning, IsLedBy, IsPlacedAt, Name, only_polls, Op, opening_words, Processor, Reach, Setup, Words, words_after}
+use Rattle.gh_law.specs.Vocabulary.{actors_after, arena_of, at_seat, Cell, Coordinating, Entry, Ever, ever_after_list, first_words, IsBeginning, IsLedBy, IsPlacedAt, Name, only_polls, Op, Processor, Reach, Setup, Words, words_after}
 use Rattle.gh_base.specs.declared.pack.PageWord.TheVariants.{Head}
 use Rattle.gh_base.specs.declared.pack.SpanHead.{SpanHead}
 use Rattle.gh_base.specs.Packing.{page_of}
@@ -78,13 +78,13 @@ pub record MarksAreLeft (words : Words) (ever : Ever) (sweeps : ℕ → Option S
 -- After a list.
 module _ (setup : Setup) (es : List (Entry Op)) where
   abbrev told : Words
-  told = words_after (opening_words setup.pacing.trigger) es
+  told = words_after (first_words setup) es
 
   pub record SweepsStand : Type 0 where
     pub numbers : SpansAreNumbered told
     pub owned : OwnedAreSwept told
-    pub cached : (a : ℕ) → a < setup.layout.procs → CachedAreSwept told a (at_seat (arena_of setup.shapes setup.layout) (opening_words setup.pacing.trigger) es a)
-    pub held : (a : ℕ) → a < setup.layout.procs → HoldsItsOwn told a (at_seat (arena_of setup.shapes setup.layout) (opening_words setup.pacing.trigger) es a)
+    pub cached : (a : ℕ) → a < setup.layout.procs → CachedAreSwept told a (at_seat (arena_of setup.shapes setup.layout) (first_words setup) es a)
+    pub held : (a : ℕ) → a < setup.layout.procs → HoldsItsOwn told a (at_seat (arena_of setup.shapes setup.layout) (first_words setup) es a)
     -- a cycle begins and is marked once each span is swept
     pub marked : (c : Coordinating) → IsLedBy (arena_of setup.shapes setup.layout) setup.pacing setup.may es c → IsBeginning c.stage ⊎ leading.Marks c.stage → EachSpanIsSwept told
-    pub marks : (c : Coordinating) → IsLedBy (arena_of setup.shapes setup.layout) setup.pacing setup.may es c → (leading.Marks c.stage → ⊥) → MarksAreLeft told (ever_after_list (arena_of setup.shapes setup.layout) (opening_words setup.pacing.trigger) es) (λ who. sweep_of (actors_after (arena_of setup.shapes setup.layout) setup.pacing setup.may es who))
+    pub marks : (c : Coordinating) → IsLedBy (arena_of setup.shapes setup.layout) setup.pacing setup.may es c → (leading.Marks c.stage → ⊥) → MarksAreLeft told (ever_after_list (arena_of setup.shapes setup.layout) (first_words setup) es) (λ who. sweep_of (actors_after (arena_of setup.shapes setup.layout) setup.pacing setup.may es who))

@@ -1,5 +1,5 @@
 -- The names that several files of specs/ share.
-pub use Rattle.gh_base.specs.Cells.{buffers_of, InRange, opening_words, seats_of, Words}
+pub use Rattle.gh_base.specs.Cells.{buffers_of, InRange, seats_of, Words}
 pub use Rattle.gh_base.specs.Lists.{Begins, by, by as own, Legal, started, state_of, words_after}
 pub use Rattle.gh_base.specs.declared.cell.Ask.{Ask}
 pub use Rattle.gh_base.specs.declared.cell.Ask.TheVariants.{Or, Store}
@@ -14,7 +14,7 @@ pub use Rattle.gh_coord.specs.Listing.{Coordinating, lapsed_at}
 pub use Rattle.gh_coord.specs.Stopping.{acks_of}
 pub use Rattle.gh_coord.specs.declared.coord.CoordStage.TheVariants.{Done, Open}
 pub use Rattle.gh_holds.specs.Below.{FewAreScanned, GlobalsAreCounted, scanned_in}
-pub use Rattle.gh_lists.specs.Handshake.{actors, asks, is_busy, IsExact, place_of, Setup, those, WaitsWithNone}
+pub use Rattle.gh_lists.specs.Handshake.{actors, asks, first_words, is_busy, IsExact, place_of, Setup, those, WaitsWithNone}
 pub use Rattle.gh_lists.specs.Lists.{Given, IsLed, setup_for, words}
 pub use Rattle.gh_lists.specs.Marking.{actors_after, IsBeginning, IsInLimits, IsLedBy, IsStartOf}
 pub use Rattle.gh_lists.specs.Order.{before_step, begun_in}

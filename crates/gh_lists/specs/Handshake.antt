@@ -57,9 +57,13 @@ is_busy (Actor.Leads c) = coord.is_busy c.stage
 abbrev pub actors : Setup → Kind Actor Op
 actors setup = record { start = start setup.layout setup.pacing; begins = begins setup.shapes setup.layout; asks = asks setup.layout; takes = actor_takes setup.shapes setup.layout; busy = is_busy }
 
+-- what the words hold before the first step
+abbrev pub first_words : Setup → Words
+first_words setup = opening_words setup.layout setup.pacing.trigger
+
 -- The lists of all actors of a heap, by what a processor may begin.
 abbrev pub those : Setup → Setting Actor Op
-those setup = record { kind = actors setup; layout = setup.layout; actors = seats_of setup.layout; opening = opening_words setup.pacing.trigger; may_begin = setup.may }
+those setup = record { kind = actors setup; layout = setup.layout; actors = seats_of setup.layout; opening = first_words setup; may_begin = setup.may }
 
 -- where each stands
 abbrev pub place_of : Actor → HandshakePlace

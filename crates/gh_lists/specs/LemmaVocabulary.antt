@@ -1,7 +1,7 @@
 -- The names that the lemmas which stand in this folder share.
 pub use Rattle.std.proofs.lemmas.Bool.Decides.{nat_tests}
 pub use Rattle.std.specs.Prelude.{nat_lt}
-pub use Rattle.gh_base.specs.Cells.{opening_words, put, Words}
+pub use Rattle.gh_base.specs.Cells.{put, Words}
 pub use Rattle.gh_base.specs.Lists.{Begins, Kind, Legal, started, state_of}
 pub use Rattle.gh_base.specs.Packing.{phase_of, phase_word}
 unfoldable pub use Rattle.gh_base.specs.Rows.{row_bit}

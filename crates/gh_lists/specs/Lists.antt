@@ -1,8 +1,8 @@
 -- Lists of steps of all actors of a heap, the newest first: the words and the heap that never frees after one, who leads, and with which entry a cycle begins, ends or is swept.
 use Rattle.std.specs.Prelude.{◌≡◌, ℕ, ◌≤◌, Bool, List, [], ◌∷◌}
-use Rattle.gh_lists.specs.Vocabulary.{acks_of, Arena, Close, Coordinating, CoordStage, Entry, Ever, Layout, Legal, MOST_STATEMENTS, Op, opening_words, processor_kind, Shape, state_of, StoreSwept, Tell, Words, words_after}
+use Rattle.gh_lists.specs.Vocabulary.{acks_of, Arena, Close, Coordinating, CoordStage, Entry, Ever, Layout, Legal, MOST_STATEMENTS, Op, processor_kind, Shape, state_of, StoreSwept, Tell, Words, words_after}
 use Rattle.gh_coord.specs.declared.close.CloseStage.TheVariants.{StoreGen}
-use Rattle.gh_lists.specs.Handshake.{Pacing, those, Setup}
+use Rattle.gh_lists.specs.Handshake.{first_words, Pacing, those, Setup}
 use Rattle.gh_lists.specs.Marking.{IsBeginning, IsLedBy}
 use Rattle.gh_lists.specs.Processors.{arena_of, ever_after_list, may_begin}
 use Rattle.gh_lists.specs.Wants.{AreFew, total}
@@ -37,10 +37,10 @@ module _ (setup : Setup) where
   arena = arena_of setup.shapes setup.layout
 
   abbrev pub words : List (Entry Op) → Words
-  words es = words_after (opening_words setup.pacing.trigger) es
+  words es = words_after (first_words setup) es
 
   abbrev pub ever : List (Entry Op) → Ever
-  ever es = ever_after_list arena (opening_words setup.pacing.trigger) es
+  ever es = ever_after_list arena (first_words setup) es
 
   abbrev pub IsLed : List (Entry Op) → Coordinating → Type 0
   IsLed es c = IsLedBy arena setup.pacing setup.may es c

@@ -1,8 +1,8 @@
 -- At the seat of a worker or of the coordinator no operation begins: a processor there would rest. So no entry of theirs acts, gives an answer or begins anything; and at a processor's seat the actor is what its own entries make of it.
 use Rattle.std.proofs.Common.{◌≡◌, ◌≢◌, ℕ, ◌<◌, ◌≤◌, ◌==◌, Bool, true, false, cond, refl, sym, ap, subst, ◌∙◌, arith, List, [], ◌∷◌, Option, Some, None}
-use Rattle.gh_lists.specs.Vocabulary.{Actor, before_step, Begins, by, deeds, Entry, Legal, nat_tests, OnlyPointsChange, Op, opening_processor, opening_words, Processor, processor_kind, started, state_of}
+use Rattle.gh_lists.specs.Vocabulary.{Actor, before_step, Begins, by, deeds, Entry, Legal, nat_tests, OnlyPointsChange, Op, opening_processor, Processor, processor_kind, started, state_of}
 use Rattle.gh_lists.specs.Lists.{arena, ever}
-use Rattle.gh_lists.specs.Handshake.{actors, is_busy, those, Setup}
+use Rattle.gh_lists.specs.Handshake.{actors, first_words, is_busy, those, Setup}
 use Rattle.gh_lists.specs.LemmaVocabulary.{actors_after, answers_of, given_of}
 use Rattle.gh_lists.specs.Seats.{IsSeated, seated}
 
@@ -49,10 +49,10 @@ module _ (setup : Setup) where
 
   -- What the entries of others leave of what an actor's own say.
   module _ (e : Entry Op) (es : List (Entry Op)) (a : ℕ) (other : (e.actor == a) ≡ false) where
-    pub answers_stay : answers_of (arena setup) (opening_words setup.pacing.trigger) a (e ∷ es) ≡ answers_of (arena setup) (opening_words setup.pacing.trigger) a es
+    pub answers_stay : answers_of (arena setup) (first_words setup) a (e ∷ es) ≡ answers_of (arena setup) (first_words setup) a es
     answers_stay = rw other refl
 
-    pub given_stay : given_of (arena setup) (opening_words setup.pacing.trigger) a (e ∷ es) ≡ given_of (arena setup) (opening_words setup.pacing.trigger) a es
+    pub given_stay : given_of (arena setup) (first_words setup) a (e ∷ es) ≡ given_of (arena setup) (first_words setup) a es
     given_stay = rw other refl
 
     pub state_stays : state_of (processor_kind setup.shapes setup.layout) a (e ∷ es) ≡ state_of (processor_kind setup.shapes setup.layout) a es

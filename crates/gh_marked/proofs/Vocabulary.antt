@@ -61,7 +61,7 @@ pub use Rattle.gh_marked.specs.Spans.{IsForTypes, IsHeadFor, IsPageFor, PagesAre
 pub use Rattle.gh_marked.specs.StackWords.{LeavesStack, ScansStack, TellsStacks}
 pub use Rattle.gh_marked.specs.State.{HasState, is_last_task, IsAsItShould, IsHeapOf, IsKnown, processor_at}
 pub use Rattle.gh_marked.specs.Sweepers.{IsInSweep, sweep_of}
-pub use Rattle.gh_marked.specs.Vocabulary.{acks_of, Act, acted, Actor, actors, actors_after, acts, acts_at, after_assist, after_gc, after_poll, alloc_words, answer_at, answers_of, Arena, arena, Ask, Black, buffer_of, Buffered, buffers_of, by, Cell, cell_of, ChangesOneCell, Claimed, Colour, Coordinating, CountsPlainly, Cycle, deeds, EachStepGoesByMoves, effect, END, ended_in, ends, EndsClean, Entry, eqb_tells, Ever, ever, follows, given_of, goes, Hands, Heap, in_range, is_busy_at, IsBeginning, IsBounded, IsChecked, IsEnding, IsInLimits, IsLed, IsLedBy, IsOf, IsSound, IsStartOf, KeepsIt, Kind, Layout, Legal, mark_words, MarkFacts, Marking, MarkingBegins, MarkingGood, MarksByMoves, MarksNothing, Name, nat_tests, NewStage, nothing, Op, opening_words, Pacing, page_of, page_words, Pending, Placing, Processor, processor_kind, ProcessorFacts, ProcessorWritesItsOwn, Progress, Read, REGISTERS, Right, Row, SameExtent, Scanned, seats_of, SeatSweepsNothing, setting, Setup, setup_in, Shape, ShapesAreGood, Shared, sought_for, started, State, state_of, stays, StepKeepsIt, stored_in, Sweeping, SweepRuns, Taken, takes, takes_at, Task, TellsScan, those, Untouched, View, view, Went, White, Words, words, words_after, WorkersAreRoutines, Working, WritesOf}
+pub use Rattle.gh_marked.specs.Vocabulary.{acks_of, Act, acted, Actor, actors, actors_after, acts, acts_at, after_assist, after_gc, after_poll, alloc_words, answer_at, answers_of, Arena, arena, Ask, Black, buffer_of, Buffered, buffers_of, by, Cell, cell_of, ChangesOneCell, Claimed, Colour, Coordinating, CountsPlainly, Cycle, deeds, EachStepGoesByMoves, effect, END, ended_in, ends, EndsClean, Entry, eqb_tells, Ever, ever, first_words, follows, given_of, goes, Hands, Heap, in_range, is_busy_at, IsBeginning, IsBounded, IsChecked, IsEnding, IsInLimits, IsLed, IsLedBy, IsOf, IsSound, IsStartOf, KeepsIt, Kind, Layout, Legal, mark_words, MarkFacts, Marking, MarkingBegins, MarkingGood, MarksByMoves, MarksNothing, Name, nat_tests, NewStage, nothing, Op, Pacing, page_of, page_words, Pending, Placing, Processor, processor_kind, ProcessorFacts, ProcessorWritesItsOwn, Progress, Read, REGISTERS, Right, Row, SameExtent, Scanned, seats_of, SeatSweepsNothing, setting, Setup, setup_in, Shape, ShapesAreGood, Shared, sought_for, started, State, state_of, stays, StepKeepsIt, stored_in, Sweeping, SweepRuns, Taken, takes, takes_at, Task, TellsScan, those, Untouched, View, view, Went, White, Words, words, words_after, WorkersAreRoutines, Working, WritesOf}
 unfoldable pub use Rattle.gh_marked.specs.Vocabulary.{row_bit}
 pub use Rattle.gh_marked.specs.Weights.{AllGoOn, black_last, by_entry, by_global, by_object, counted, entered_high, grows, stored_rises}
 pub use Rattle.gh_marks.specs.Colours.{IsShaded, mark_of}

@@ -1,13 +1,13 @@
 -- A cycle in the picture of the argument for the write barrier (`gh_tri`): from where it begins on, each step of the list, of whichever actor, is a list of moves of the picture, each of which may be made, and of changes of registers.
 use Rattle.std.specs.Prelude.{◌≡◌, ℕ, ◌+◌, ◌≤◌, List, ◌∷◌}
-use Rattle.gh_marked.specs.Vocabulary.{arena_of, Coordinating, Cycle, Entry, Goes, Invariants, IsBeginning, IsChecked, IsLedBy, IsMarkingDone, IsOpeningPicture, IsStateOf, Marking, Op, opening_words, Row, Setup, ThePictureSays, Tricolour, Went, Words, words_after}
+use Rattle.gh_marked.specs.Vocabulary.{arena_of, Coordinating, Cycle, Entry, first_words, Goes, Invariants, IsBeginning, IsChecked, IsLedBy, IsMarkingDone, IsOpeningPicture, IsStateOf, Marking, Op, Row, Setup, ThePictureSays, Tricolour, Went, Words, words_after}
 use Rattle.gh_marks.specs.Shows.{Shows}
 use Rattle.gh_marked.specs.Tied.{IsOfHeap, IsTied}
 
 module _ (setup : Setup) where
   -- the words after the list
   abbrev told : List (Entry Op) → Words
-  told es = words_after (opening_words setup.pacing.trigger) es
+  told es = words_after (first_words setup) es
 
   -- with the next entry cycle k begins
   pub record IsToBegin (es : List (Entry Op)) (k : ℕ) : Type 0 where

@@ -1,6 +1,6 @@
 -- The heap's count of bytes, in every legal list of steps of all actors: it is the bytes of the slots of the objects that stand, less those that are placed and not counted yet, and with those that are cleared and not taken off yet.
 use Rattle.std.specs.Prelude.{◌≡◌, ℕ, ◌+◌, ◌*◌, List, Option, Some, None}
-use Rattle.gh_marked.specs.Vocabulary.{Actor, actors_after, alloc_words, arena_of, Cell, Entry, NewStage, Op, opening_words, page_words, seats_of, Setup, Sweeping, Task, total, Words, words_after}
+use Rattle.gh_marked.specs.Vocabulary.{Actor, actors_after, alloc_words, arena_of, Cell, Entry, first_words, NewStage, Op, page_words, seats_of, Setup, Sweeping, Task, total, Words, words_after}
 use Rattle.gh_alloc.specs.declared.place.PlaceStage.{PlaceStage}
 use Rattle.gh_state.specs.Slots.{slot_row}
 use Rattle.gh_sweep.specs.Shared.{placed}
@@ -38,7 +38,7 @@ untaken_at x = untaken (sweep_of x)
 module _ (setup : Setup) where
   -- the words, and the actor at a seat, after the list
   abbrev told : List (Entry Op) → Words
-  told es = words_after (opening_words setup.pacing.trigger) es
+  told es = words_after (first_words setup) es
 
   abbrev at : List (Entry Op) → ℕ → Actor
   at es a = actors_after (arena_of setup.shapes setup.layout) setup.pacing setup.may es a

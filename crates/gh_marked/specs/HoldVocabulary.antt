@@ -1,5 +1,5 @@
 -- The names of what holds after every list of all actors, which its files share.
-pub use Rattle.gh_base.specs.Cells.{opening_words, Words}
+pub use Rattle.gh_base.specs.Cells.{Words}
 pub use Rattle.gh_base.specs.Lists.{Legal, state_of}
 pub use Rattle.gh_base.specs.Rows.{alloc_words, birth_words, mark_words}
 pub use Rattle.gh_base.specs.declared.layout.Layout.{Layout}

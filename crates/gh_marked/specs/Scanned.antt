@@ -1,6 +1,6 @@
 -- How many words workers scan, in every legal list of steps of all actors: each global is counted once in a cycle of marking, and of objects there is a most.
 use Rattle.std.specs.Prelude.{◌≡◌, ℕ, ◌+◌, ◌*◌, ◌≤◌, min, List, [], ◌∷◌}
-use Rattle.gh_marked.specs.Vocabulary.{Actor, actors, Cell, Coordinating, Entry, global_held, Layout, Marks, Op, opening_words, seats_of, Setup, state_of, stored_in, total, words_after}
+use Rattle.gh_marked.specs.Vocabulary.{Actor, actors, Cell, Coordinating, Entry, first_words, global_held, Layout, Marks, Op, seats_of, Setup, state_of, stored_in, total, words_after}
 use Rattle.gh_coord.specs.Handshake as leading
 use Rattle.gh_worker.specs.Globals.{global_done, object_done}
 use Rattle.gh_worker.specs.Works.{words_done}
@@ -53,7 +53,7 @@ module _ (setup : Setup) where
 
   -- no more in the list than in as many cycles as have begun
   abbrev pub FewAreScanned : List (Entry Op) → Type 0
-  FewAreScanned es = scanned_in es ≤ words_after (opening_words setup.pacing.trigger) es Cell.Begun * most_scanned setup.layout
+  FewAreScanned es = scanned_in es ≤ words_after (first_words setup) es Cell.Begun * most_scanned setup.layout
 
   -- In each cycle each global is counted exactly once.
   pub record GlobalsAreCounted (es : List (Entry Op)) (c : Coordinating) : Type 0 where
@@ -62,7 +62,7 @@ module _ (setup : Setup) where
     -- while no cycle is marked each global was counted as often as the marking of a cycle has ended
     pub once : (leading.Marks c.stage → ⊥) → globals_in es ≡ stored_in Cell.Gen es * setup.layout.globals
     -- while one is marked so is, besides, each that the cursor has passed in it, but for those that workers have in hand
-    pub so_far : leading.Marks c.stage → globals_in es + globals_held es ≡ stored_in Cell.Gen es * setup.layout.globals + min (words_after (opening_words setup.pacing.trigger) es Cell.Gcur) setup.layout.globals
+    pub so_far : leading.Marks c.stage → globals_in es + globals_held es ≡ stored_in Cell.Gen es * setup.layout.globals + min (words_after (first_words setup) es Cell.Gcur) setup.layout.globals
     -- so at all times as often as marking has ended at the least, and at the most as often as a cycle has begun
     pub least : stored_in Cell.Gen es * setup.layout.globals ≤ globals_in es
     pub most : globals_in es ≤ stored_in Cell.Begun es * setup.layout.globals

@@ -1,7 +1,7 @@
 -- The one state of the heap and its sweep that there is after every list of all actors; what it is to the list, and what is known beside it while a cycle is marked.
 use Rattle.std.specs.Option.{option_to_list}
 use Rattle.std.proofs.Common.{inl, inr, ◌≡◌, ◌↔◌, ℕ, ◌<◌, ◌≤◌, ◌⊎◌, Bool, true, false, List, ◌++◌, slice_index, Option, Some, None}
-use Rattle.gh_marked.specs.Vocabulary.{actors_after, answers_of, Arena, arena, BeginsCycle, by, Cell, Coordinating, Cycle, deeds, END, ended_in, Entry, Ever, ever, given_of, HasGoneOn, Heap, IsBeside, IsBounded, IsLed, IsOf, IsPlacedAt, IsSound, IsStartOf, mark_words, Marking, Name, Op, opening_words, Processor, processor_kind, ProcessorFacts, Right, seats_of, Setup, State, state_of, Task, Told, view, Words, words}
+use Rattle.gh_marked.specs.Vocabulary.{actors_after, answers_of, Arena, arena, BeginsCycle, by, Cell, Coordinating, Cycle, deeds, END, ended_in, Entry, Ever, ever, first_words, given_of, HasGoneOn, Heap, IsBeside, IsBounded, IsLed, IsOf, IsPlacedAt, IsSound, IsStartOf, mark_words, Marking, Name, Op, Processor, processor_kind, ProcessorFacts, Right, seats_of, Setup, State, state_of, Task, Told, view, Words, words}
 use Rattle.gh_marked.specs.HeapBytes.{uncounted}
 use Rattle.gh_marked.specs.Sweepers.{IsInSweep, sweep_of}
 use Rattle.gh_marked.specs.HoldVocabulary.{Answer, AreWords, IsDrawnSo, IsToBegin, StateGood}
@@ -29,7 +29,7 @@ module _ (setup : Setup) where
     pub sound : IsSound setup.layout m
     pub pending : Option Answer
     pub fine : ProcessorFacts z a (view h) m pending
-    pub answers : answers_of z (opening_words setup.pacing.trigger) a es ≡ option_to_list pending ++ given_of z (opening_words setup.pacing.trigger) a es
+    pub answers : answers_of z (first_words setup) a es ≡ option_to_list pending ++ given_of z (first_words setup) a es
     pub notes : (g : ℕ) → IsOf z a g → slice_index m.poll.local.scanned g ≡ h.words (Cell.Scanned g)
     -- a goroutine of its own has ended, or ends now, exactly where that was begun
     pub ended : (g : ℕ) → IsOf z a g → ((deeds setup.layout setup.shapes).unacted m ≡ Some (Op.End g)) ⊎ (h.ever.ended g ≡ true) → ended_in (by a es) g ≡ true

@@ -1,6 +1,6 @@
 -- What ties a state of marking to a list of all actors: to its words, to the heap that never frees, and to what each actor is at.
 use Rattle.std.specs.Prelude.{◌≡◌, ◌≢◌, ℕ, ◌+◌, ◌<◌, ◌≤◌, ◌↔◌, true, false, List, Some}
-use Rattle.gh_marked.specs.Vocabulary.{acks_of, actors, Arena, arena_of, Cell, Cycle, END, Entry, Ever, ever_after_list, Good, Hands, Heap, HeapGood, IsBeside, IsBounded, IsPlacedAt, KnowsObjects, mark_words, MarkFacts, Marking, Marks, Name, nothing, Op, opening_words, processor_kind, Reach, REGISTERS, row_bit, Setup, state_of, view, White, Words, words_after, Working}
+use Rattle.gh_marked.specs.Vocabulary.{acks_of, actors, Arena, arena_of, Cell, Cycle, END, Entry, Ever, ever_after_list, first_words, Good, Hands, Heap, HeapGood, IsBeside, IsBounded, IsPlacedAt, KnowsObjects, mark_words, MarkFacts, Marking, Marks, Name, nothing, Op, processor_kind, Reach, REGISTERS, row_bit, Setup, state_of, view, White, Words, words_after, Working}
 use Rattle.gh_model.specs.Ever.{names}
 use Rattle.gh_heap.specs.Objects.{points, shape_for, size_for}
 use Rattle.gh_worker.specs.MarkFacts.{Facts as WorkerFacts}
@@ -12,10 +12,10 @@ module _ (setup : Setup) where
   -- the words after the list, and the heap that never frees
 
   abbrev told : List (Entry Op) → Words
-  told es = words_after (opening_words setup.pacing.trigger) es
+  told es = words_after (first_words setup) es
 
   abbrev ever_told : List (Entry Op) → Ever
-  ever_told es = ever_after_list z (opening_words setup.pacing.trigger) es
+  ever_told es = ever_after_list z (first_words setup) es
 
   -- The state of marking is one of the heap after the list.
   pub record IsOfHeap (es : List (Entry Op)) (c : Cycle) (s : Marking) : Type 0 where

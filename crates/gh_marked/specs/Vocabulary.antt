@@ -1,6 +1,6 @@
 -- The names that several files of specs/ share.
 pub use Rattle.std.proofs.lemmas.Bool.Decides.{eqb_tells, nat_tests}
-pub use Rattle.gh_base.specs.Cells.{buffers_of, opening_words, seats_of, Words}
+pub use Rattle.gh_base.specs.Cells.{buffers_of, seats_of, Words}
 pub use Rattle.gh_base.specs.Lists.{by, Kind, Legal, started, state_of, words_after}
 pub use Rattle.gh_base.specs.Packing.{buffer_of, page_of}
 pub use Rattle.gh_base.specs.Rows.{alloc_words, mark_words, page_words, Row, RowsAreWritten}
@@ -22,7 +22,7 @@ pub use Rattle.gh_heap.specs.Moves.{GoroutineRuns, update}
 pub use Rattle.gh_heap.specs.Rights.{Arena, Good as HeapGood, Right, Shared as Heap, view}
 pub use Rattle.gh_lists.specs.Beginning.{both, ends-by}
 pub use Rattle.gh_lists.specs.Counts.{CountsPlainly, stored_after, stored_in}
-pub use Rattle.gh_lists.specs.Handshake.{actors, KeepsIt, Pacing, Setup, StepKeepsIt, those}
+pub use Rattle.gh_lists.specs.Handshake.{actors, first_words, KeepsIt, Pacing, Setup, StepKeepsIt, those}
 pub use Rattle.gh_lists.specs.LemmaVocabulary.{Entry, IsOf, Op, Processor, REGISTERS, View}
 pub use Rattle.gh_lists.specs.Lists.{arena, BeginsCycle, ever, IsEnding, IsLed, words}
 pub use Rattle.gh_lists.specs.Marking.{actors_after, EndsClean, IsBeginning, IsChecked, IsInLimits, IsLedBy, IsStartOf, IsStateOf, setting, setup_in}

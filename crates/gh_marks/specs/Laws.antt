@@ -1,6 +1,7 @@
 -- What holds of the moves of marking.
 use Rattle.std.specs.Prelude.{◌≡◌, ◌≢◌, ℕ, ◌+◌, ◌-◌, ◌^◌, ◌<◌, Bool, true, Some, None}
 use Rattle.gh_marks.specs.Vocabulary.{AreWords, Ask, Cell, Held, IsOf, mark_words, opening_words, row_bit}
+use Rattle.gh_base.specs.declared.layout.Layout.{Layout}
 use Rattle.gh_marks.specs.Colours.{Cycle, IsClean, IsPointer, IsSince, seen_field, seen_global, seen_word, Shared}
 use Rattle.gh_marks.specs.Ends.{EachReachedIsMarked, IsDone, IsFoundAtTheEnd, Opens}
 use Rattle.gh_marks.specs.Good.{Good}
@@ -114,5 +115,5 @@ TheDeadAreWhite = (z : Cycle) (s : Shared) → Good z s → (o : ℕ) → IsDead
 
 -- mark words are words where a heap opens, and behind each move of marking
 pub record MarksStayWords : Type 0 where
-  pub opening : (trigger : ℕ) → AreWords (mark_words (opening_words trigger))
+  pub opening : (l : Layout) (trigger : ℕ) → AreWords (mark_words (opening_words l trigger))
   pub moves : (z : Cycle) (a : ℕ) (s : Shared) (m : Move) → May z a s m → AreWords (mark_words s.words) → AreWords (mark_words (moved z a s m).words)

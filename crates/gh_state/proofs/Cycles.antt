@@ -201,7 +201,7 @@ ends k z s g o = ends_here k z s g o
 
 module _ (k : Known) (z : Arena) (trigger : ℕ) where
   abbrev words : Words
-  words = opening_words trigger
+  words = opening_words z.layout trigger
 
   no_head : (h : SpanHead) → page_of 0 ≡ Head h → ⊥
   no_head h e = cc

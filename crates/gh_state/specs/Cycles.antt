@@ -60,15 +60,15 @@ CyclesEnd = (z : Arena) (s : Shared) → Good z s → IsOver s → Good z (cycle
 
 -- A heap opens as one where a cycle has ended of which no object is left.
 abbrev pub opening_end : Layout → (trigger : ℕ) → CycleEnd
-opening_end l trigger = record { layout = l; words = opening_words trigger; slot = λ i. 0; since = λ x. false }
+opening_end l trigger = record { layout = l; words = opening_words l trigger; slot = λ i. 0; since = λ x. false }
 
 abbrev pub opening : Arena → rights.Shared → (trigger : ℕ) → Shared
 opening z h trigger =
     let w = at_end (opening_end z.layout trigger) in
-    record { heap = record h { words = opening_words trigger }; told = None; end = opening_end z.layout trigger; far = w.far; cut = w.cut; clear = w.clear; slot = w.slot; since = w.since; due = w.due; pend = w.pend }
+    record { heap = record h { words = opening_words z.layout trigger }; told = None; end = opening_end z.layout trigger; far = w.far; cut = w.cut; clear = w.clear; slot = w.slot; since = w.since; due = w.due; pend = w.pend }
 
 abbrev pub HeapsOpen : Type 0
-HeapsOpen = (z : Arena) (h : rights.Shared) (trigger : ℕ) → rights.Good z (rights.view (record h { words = opening_words trigger })) → ((n : Name) → Reach h.ever n → ⊥) → Good z (opening z h trigger)
+HeapsOpen = (z : Arena) (h : rights.Shared) (trigger : ℕ) → rights.Good z (rights.view (record h { words = opening_words z.layout trigger })) → ((n : Name) → Reach h.ever n → ⊥) → Good z (opening z h trigger)
 
 -- Once all is swept.
 pub record AllIsTold (s : Shared) : Type 0 where

@@ -44,7 +44,7 @@ impl Words for Vec<u64> {
 /// trigger, in bytes.
 fn open<W: Words>(words: &mut W, layout: &Layout, trigger: u64)
     requires { W.list words.old ≡ replicate (length_of layout.now) 0 }
-    ensures { ShowsCells layout.now (W.list words.new) (opening_words trigger) }
+    ensures { ShowsCells layout.now (W.list words.new) (opening_words layout.now trigger) }
 {
     words.step(layout.request(Ask::Store(Cell::Gen, 2)));
     words.step(layout.request(Ask::Store(Cell::Slack, 1)));
@@ -54,7 +54,7 @@ fn open<W: Words>(words: &mut W, layout: &Layout, trigger: u64)
 /// The words of a heap of this layout as it opens, in one list: 0 each, save the sweep generation 2, the slack 1, and the
 /// trigger, in bytes.
 pub fn opening_list(alloc: Global, layout: &Layout, trigger: u64) -> Result<Vec<u64>, AllocError>
-    ensures { IfOk result (λ words. ShowsCells layout.now words.items (opening_words trigger)) }
+    ensures { IfOk result (λ words. ShowsCells layout.now words.items (opening_words layout.now trigger)) }
 {
     let mut words = vec![in alloc; 0; layout.words() as usize]?;
     open(&mut words, layout, trigger);
@@ -129,7 +129,7 @@ impl Plain {
     /// The words of a heap of this layout as it opens: 0 each, save the sweep generation 2, the
     /// slack 1, and the trigger, in bytes. It takes all the memory that there is need for.
     pub fn new(alloc: Global, layout: &Layout, trigger: u64) -> Result<Plain, AllocError>
-        ensures { IfOk result (λ words. ShowsCells layout.now words (opening_words trigger)) }
+        ensures { IfOk result (λ words. ShowsCells layout.now words (opening_words layout.now trigger)) }
     {
         let mut words = Plain::cleared(alloc, layout.words() as usize)?;
         open(&mut words, layout, trigger);

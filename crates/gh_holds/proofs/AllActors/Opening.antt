@@ -1,6 +1,6 @@
 -- Before the first step the heap is empty and calm, every processor is at rest, and no cycle was begun.
 use Rattle.std.proofs.Common.{◌≡◌, ℕ, ◌%◌, ◌<◌, false, [], None, refl, sym, ◌∙◌, arith, inl, inr}
-use Rattle.gh_holds.proofs.Vocabulary.{acks_of, Actor, actors_after, alloc_words, Arena, arena, at_seat, bit_at-zero, Coordinating, from_field, from_global, from_register, Good, Heap, Holds, IsAsItShould, IsHeapOf, IsInSweep, IsLed, IsQuiet, Known, Name, opening, opening_ever, opening_processor, opening_words, Reach, row_bit, seats_of, Setup, State, sweep_of, view}
+use Rattle.gh_holds.proofs.Vocabulary.{acks_of, Actor, actors_after, alloc_words, Arena, arena, at_seat, bit_at-zero, Coordinating, first_words, from_field, from_global, from_register, Good, Heap, Holds, IsAsItShould, IsHeapOf, IsInSweep, IsLed, IsQuiet, Known, Name, opening, opening_ever, opening_processor, Reach, row_bit, seats_of, Setup, State, sweep_of, view}
 use Rattle.gh_coord.specs.Listing as coord
 
 nothing_reached : (n : Name) → Reach opening_ever n → ⊥
@@ -13,9 +13,9 @@ module _ (setup : Setup) (known : Known) where
   z = arena setup
 
   abbrev h : Heap
-  h = record { words = opening_words setup.pacing.trigger; locked = λ a. false; holds = λ a p. false; laying = λ a. None; freeing = λ a. None; place = λ n. 0; ever = opening_ever }
+  h = record { words = first_words setup; locked = λ a. false; holds = λ a p. false; laying = λ a. None; freeing = λ a. None; place = λ n. 0; ever = opening_ever }
 
-  no_bit : (x : ℕ) → row_bit (alloc_words (opening_words setup.pacing.trigger)) x ≡ 1 → ⊥
+  no_bit : (x : ℕ) → row_bit (alloc_words (first_words setup)) x ≡ 1 → ⊥
   unfolding row_bit
   no_bit x set = let none = sym (bit_at-zero (x % 64)) ∙ set in omega (arith, none)
 

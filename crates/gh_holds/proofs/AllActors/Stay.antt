@@ -1,6 +1,6 @@
 -- An entry that changes nothing: no word, no processor, no sweep that anyone runs, and nothing of the heap that never frees. So is each entry of another than the coordinator in a stopped world. What holds stays as it is.
 use Rattle.std.proofs.Common.{◌≡◌, inl, inr, ℕ, ◌+◌, ◌<◌, ◌≤◌, ◌==◌, false, refl, sym, ap, subst, ◌∙◌, arith, List, ◌∷◌, None}
-use Rattle.gh_holds.proofs.Vocabulary.{acks_of, Actor, actors_after, alloc_words, answers_of, answers_stay, Arena, arena, by, Coordinating, CountStage, ended_in, EndedSo, Entry, Ever, ever, ever_stays, given_of, given_stay, HasEnded, HasState, Heap, IsCounting, IsHeapOf, IsInCycle, IsInSweep, IsLed, IsMade, IsNewThere, IsPlacedAt, IsQuiet, IsReady, IsSweeping, IsTold, Known, Legal, ListsKnown, MarksNothing, nat_tests, NobodyMarks, Op, opening_words, own_stay, Processor, processor_at, row_bit, RunPhase, Setup, State, state_stays, Stopped, sweep_of, SweepingAll, those, uncounted, Words, words, Working, works}
+use Rattle.gh_holds.proofs.Vocabulary.{acks_of, Actor, actors_after, alloc_words, answers_of, answers_stay, Arena, arena, by, Coordinating, CountStage, ended_in, EndedSo, Entry, Ever, ever, ever_stays, first_words, given_of, given_stay, HasEnded, HasState, Heap, IsCounting, IsHeapOf, IsInCycle, IsInSweep, IsLed, IsMade, IsNewThere, IsPlacedAt, IsQuiet, IsReady, IsSweeping, IsTold, Known, Legal, ListsKnown, MarksNothing, nat_tests, NobodyMarks, Op, own_stay, Processor, processor_at, row_bit, RunPhase, Setup, State, state_stays, Stopped, sweep_of, SweepingAll, those, uncounted, Words, words, Working, works}
 use Rattle.gh_coord.specs.Handshake as leading
 use Rattle.gh_worker.specs.Listing.{goes, sweep_at}
 
@@ -15,8 +15,8 @@ module _ (setup : Setup) (e : Entry Op) (es : List (Entry Op)) where
     pub words_are : words setup (e ∷ es) ≡ words setup es
     pub ever_is : ever setup (e ∷ es) ≡ ever setup es
     pub processors : (a : ℕ) → a < setup.layout.procs → processor_at setup (e ∷ es) a ≡ processor_at setup es a
-    pub answers : (a : ℕ) → a < setup.layout.procs → answers_of z (opening_words setup.pacing.trigger) a (e ∷ es) ≡ answers_of z (opening_words setup.pacing.trigger) a es
-    pub given : (a : ℕ) → a < setup.layout.procs → given_of z (opening_words setup.pacing.trigger) a (e ∷ es) ≡ given_of z (opening_words setup.pacing.trigger) a es
+    pub answers : (a : ℕ) → a < setup.layout.procs → answers_of z (first_words setup) a (e ∷ es) ≡ answers_of z (first_words setup) a es
+    pub given : (a : ℕ) → a < setup.layout.procs → given_of z (first_words setup) a (e ∷ es) ≡ given_of z (first_words setup) a es
     pub ended : (a : ℕ) → a < setup.layout.procs → (g : ℕ) → ended_in (by a (e ∷ es)) g ≡ ended_in (by a es) g
     -- nor is it the coordinator's
     pub led : (c : Coordinating) → IsLed setup (e ∷ es) c → IsLed setup es c

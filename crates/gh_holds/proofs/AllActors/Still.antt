@@ -1,6 +1,6 @@
 -- One entry more of a processor or a worker where the world is stopped: it leaves everything as it was.
 use Rattle.std.proofs.Common.{◌≡◌, ℕ, ◌<◌, ◌≤◌, ◌==◌, Bool, true, false, cond, ltb, refl, sym, ap, subst, ◌∙◌, arith, inl, inr, List, ◌∷◌, ◌++◌, map, Option, None, Some, eq-eqb}
-use Rattle.gh_holds.proofs.Vocabulary.{acks_of, Act, Actor, actors, actors_after, acts, Answer, answered, answered_by, AnsweredDeed, arena, before_step, Begins, begins_nothing, by, Cell, Coordinating, deeds, done_at, effect, ended_in, Entry, ever, given_at, given_of, gives, is_busy, is_busy_at, IsLed, IsParked, IsSeated, IsSound, Kind, Layout, left_at, Legal, ListsKnown, Load, meaning, nat_tests, Op, opening_processor, opening_words, option_to_list, PackedWordsAreReadBack, place_of, point_of, Processor, processor_at, processor_kind, rests, rests_on, run_started, RunPhase, runs_are, seated, Setup, Shape, stage_of, started, state_stays, stop_word, Stopped, sweep_of, takes, Task, those, Words, words, Working}
+use Rattle.gh_holds.proofs.Vocabulary.{acks_of, Act, Actor, actors, actors_after, acts, Answer, answered, answered_by, AnsweredDeed, arena, before_step, Begins, begins_nothing, by, Cell, Coordinating, deeds, done_at, effect, ended_in, Entry, ever, first_words, given_at, given_of, gives, is_busy, is_busy_at, IsLed, IsParked, IsSeated, IsSound, Kind, Layout, left_at, Legal, ListsKnown, Load, meaning, nat_tests, Op, opening_processor, option_to_list, PackedWordsAreReadBack, place_of, point_of, Processor, processor_at, processor_kind, rests, rests_on, run_started, RunPhase, runs_are, seated, Setup, Shape, stage_of, started, state_stays, stop_word, Stopped, sweep_of, takes, Task, those, Words, words, Working}
 use Rattle.gh_coord.specs.Handshake as leading
 use Rattle.gh_lists.specs.Handshake as handshake
 use Rattle.gh_holds.proofs.AllActors.Stay.{ChangesNothing, led_by_it, sweeps_same, worker_sweeps_none}
@@ -21,7 +21,7 @@ module _ (setup : Setup) where
   at es a = actors_after (arena setup) setup.pacing setup.may es a
 
   abbrev first : Words
-  first = opening_words setup.pacing.trigger
+  first = first_words setup
 
   -- what the entry leaves is all, and it is no point
   pub record IsStill (e : Entry Op) (es : List (Entry Op)) : Type 0 where

@@ -1,6 +1,6 @@
 -- What the handshake of a stop says of phases, by the actors at their seats; and that nobody marks while no cycle is marked: processors and workers are calm then, and the coordinator sets no mark and writes no buffer.
 use Rattle.std.proofs.Common.{◌≡◌, ◌≢◌, ◌⊎◌, inl, inr, ℕ, ◌+◌, ◌<◌, true, false, refl, sym, ap, subst, ◌∙◌, arith, List, [], ◌∷◌, ◌++◌, Option, Some, None}
-use Rattle.gh_law.proofs.Vocabulary.{acks_of, AcksAlone, Actor, actors_after, Answer, answers_of, Arena, arena, Ask, asks_at, asks_by_sweep, Begins, Cell, Check, Close, CloseStage, ClosingIsBusy, Coordinating, CoordStage, Count, Done, EndsInOrder, Entry, FactsAt, FindsTheStop, Finished, given_of, goes_then, HasState, Holds, HoldsAt, idle_sweeps_none, is_busy_at, IsClosing, IsInSweep, IsLed, IsMarkingStep, IsQuiet, IsSeated, IsStartOf, IsStopped, IsTelling, KeepsIt, Kind, last_phase, Layout, Legal, legal_start, ListsKnown, LoadAck, LoadWant, MarkOn, MarksInPhase, nat_tests, NobodyMarks, only_polls, Op, Open, opening_words, option_to_list, PhasesAreKnown, PhasesStand, place_of, Processor, processor_at, processor_kind, Resumes, ResumeStage, run_is, seated, Setup, SoundPlace, stage_of, StandsEmpty, StandsStill, started, Stop, StopAgain, Sweep, sweep_of, Sweeping, SweepStage, Task, Tell, TellStage, those, View, view, Watch, Words, words, Working, WritesOf}
+use Rattle.gh_law.proofs.Vocabulary.{acks_of, AcksAlone, Actor, actors_after, Answer, answers_of, Arena, arena, Ask, asks_at, asks_by_sweep, Begins, Cell, Check, Close, CloseStage, ClosingIsBusy, Coordinating, CoordStage, Count, Done, EndsInOrder, Entry, FactsAt, FindsTheStop, Finished, first_words, given_of, goes_then, HasState, Holds, HoldsAt, idle_sweeps_none, is_busy_at, IsClosing, IsInSweep, IsLed, IsMarkingStep, IsQuiet, IsSeated, IsStartOf, IsStopped, IsTelling, KeepsIt, Kind, last_phase, Layout, Legal, legal_start, ListsKnown, LoadAck, LoadWant, MarkOn, MarksInPhase, nat_tests, NobodyMarks, only_polls, Op, Open, option_to_list, PhasesAreKnown, PhasesStand, place_of, Processor, processor_at, processor_kind, Resumes, ResumeStage, run_is, seated, Setup, SoundPlace, stage_of, StandsEmpty, StandsStill, started, Stop, StopAgain, Sweep, sweep_of, Sweeping, SweepStage, Task, Tell, TellStage, those, View, view, Watch, Words, words, Working, WritesOf}
 use Rattle.gh_sweep.specs.Listing as sweep
 use Rattle.gh_coord.specs.Closing as close
 use Rattle.gh_coord.specs.Handshake as leading
@@ -165,13 +165,13 @@ module _ (setup : Setup) (lists : ListsKnown setup) where
     empty : (a : ℕ) (m : Processor) (stops : ℕ) (stage : ResumeStage) → at es a ≡ Actor.Runs m → stage_of m ≡ Resumes stops stage → StandsEmpty m
     empty a m stops stage is y = stands_empty m stops stage y (sound_at a (Actor.Runs m) (runs_below a m is) is).place
 
-    answered : HasState setup es → (a : ℕ) (m : Processor) (stops : ℕ) (stage : ResumeStage) → at es a ≡ Actor.Runs m → stage_of m ≡ Resumes stops stage → answers_of z (opening_words setup.pacing.trigger) a es ≡ given_of z (opening_words setup.pacing.trigger) a es
+    answered : HasState setup es → (a : ℕ) (m : Processor) (stops : ℕ) (stage : ResumeStage) → at es a ≡ Actor.Runs m → stage_of m ≡ Resumes stops stage → answers_of z (first_words setup) a es ≡ given_of z (first_words setup) a es
     answered has a m stops stage is y =
         let lt : a < setup.layout.procs = subst (IsSeated setup.layout a) is (seated setup es a) in
         let x = has.of_list.processors a lt in
         let polls : only_polls (processor_at setup es a).task ≡ true = subst (λ (p : Processor). only_polls p.task ≡ true) (sym (run_is setup es a m lt is)) (empty a m stops stage is y).waits in
         let none = none_pending z a (view has.state.heap) (processor_at setup es a) x.pending (processor_at setup es a).task polls x.fine.task in
-        x.answers ∙ ap (λ (p : Option Answer). option_to_list p ++ given_of z (opening_words setup.pacing.trigger) a es) none
+        x.answers ∙ ap (λ (p : Option Answer). option_to_list p ++ given_of z (first_words setup) a es) none
 
     phases_known : HasState setup es → PhasesAreKnown setup es
     phases_known has = record {

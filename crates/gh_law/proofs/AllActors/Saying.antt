@@ -1,6 +1,6 @@
 -- What every list says, by what holds after it: outside of marking by the coordinator's stage, and while a cycle is marked by what is known of the heap.
 use Rattle.std.proofs.Common.{◌≡◌, ℕ, sym, ap, ◌∙◌, List, arith}
-use Rattle.gh_law.proofs.Vocabulary.{AllStands, AllWereAsked, AllWereOpened, AnswersAsEver, Arena, arena, Awaits, Cell, Coordinating, CoordStage, Done, Entry, HasState, HeapIsCounted, HoldsAfter, HoldsAt, IsAsItShould, IsLed, IsTelling, ListsKnown, ListStands, named, NoneMeansNoRoom, Op, opening_words, PhasesStand, processor_at, ScansOnce, Setup, SpansStand, stand_apart, stands_for, StepsWithin, SweepsStand, Tell, TellStage, those, TiesShowWhatThereIs, view, Words, words}
+use Rattle.gh_law.proofs.Vocabulary.{AllStands, AllWereAsked, AllWereOpened, AnswersAsEver, Arena, arena, Awaits, Cell, Coordinating, CoordStage, Done, Entry, first_words, HasState, HeapIsCounted, HoldsAfter, HoldsAt, IsAsItShould, IsLed, IsTelling, ListsKnown, ListStands, named, NoneMeansNoRoom, Op, PhasesStand, processor_at, ScansOnce, Setup, SpansStand, stand_apart, stands_for, StepsWithin, SweepsStand, Tell, TellStage, those, TiesShowWhatThereIs, view, Words, words}
 use Rattle.gh_holds.specs.Objects.{CountsAreSaid, IsTold}
 use Rattle.gh_holds.specs.ActorsHold as hold
 use Rattle.gh_lists.specs.Counts.{CountsPlainly}
@@ -27,7 +27,7 @@ module _ (setup : Setup) (es : List (Entry Op)) (lists : ListsKnown setup) (now 
   abbrev here : HasState setup es
   here = now.has
 
-  answered : (a : ℕ) → IsAsItShould setup es here.state.heap a (processor_at setup es a) → AnswersAsEver z (opening_words setup.pacing.trigger) a es
+  answered : (a : ℕ) → IsAsItShould setup es here.state.heap a (processor_at setup es a) → AnswersAsEver z (first_words setup) a es
   answered a is = record {
     pending = is.pending;
     answers = is.answers;
@@ -39,7 +39,7 @@ module _ (setup : Setup) (es : List (Entry Op)) (lists : ListsKnown setup) (now 
   cleared k at none = ap (λ (w : Words). w at) (sym k.of_list.words_are) ∙ none
 
   module _ (c : Coordinating) (led : IsLed setup es c) where
-    stands : ListStands z (opening_words setup.pacing.trigger) es
+    stands : ListStands z (first_words setup) es
     stands = record {
       stands = stands_for setup lists.limits lists.known es here;
       answers = λ a lt. answered a (here.of_list.processors a lt);

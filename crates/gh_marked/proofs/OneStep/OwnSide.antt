@@ -1,6 +1,6 @@
 -- A processor's step, by its rights or of the sweep that it runs: what is said of the processor, of its stacks and of the globals holds behind it. So it is while spans are swept, between two cycles, and while one is marked.
 use Rattle.std.proofs.Common.{◌≡◌, ◌≢◌, ◌↔◌, ℕ, ◌<◌, ◌≤◌, ◌⊎◌, inl, inr, Bool, true, false, cond, refl, sym, ap, subst, ◌∙◌, arith, List, ◌∷◌, ◌++◌, append_assoc, map, slice_index, length, Option, Some, None, eq-eqb, ◌||◌}
-use Rattle.gh_marked.proofs.Vocabulary.{Act, acted, acts, all_ended_at, Answer, answered, answered_at, answered_by, AnsweredDeed, answers_of, Arena, arena, Ask, asks, began_end, begins, by, Cell, cell_of, deeds, DeedsFit, Does, effect, END, ended_in, ends, Entry, Ever, ever, FactsAt, Given, given_at, given_of, gives, Good, has_left_at, has_point, HasState, Heap, InRange, is_busy_at, is_last_task, IsAsItShould, IsBounded, IsHeapOf, IsInLimits, IsOf, IsSound, Kind, Known, KnowsAtAnyTime, left_by, Legal, may_leave, may_of, may_parts, meaning, Op, op_at, opening_words, option_to_list, or-true, or_cases, or_left, point_of, pointed, Processor, processor_at, processor_kind, ProcessorFacts, setup_for, ShapesAreGood, started, State, state_of, takes, Task, TellsScan, TellsStacks, those, view, Words, words}
+use Rattle.gh_marked.proofs.Vocabulary.{Act, acted, acts, all_ended_at, Answer, answered, answered_at, answered_by, AnsweredDeed, answers_of, Arena, arena, Ask, asks, began_end, begins, by, Cell, cell_of, deeds, DeedsFit, Does, effect, END, ended_in, ends, Entry, Ever, ever, FactsAt, first_words, Given, given_at, given_of, gives, Good, has_left_at, has_point, HasState, Heap, InRange, is_busy_at, is_last_task, IsAsItShould, IsBounded, IsHeapOf, IsInLimits, IsOf, IsSound, Kind, Known, KnowsAtAnyTime, left_by, Legal, may_leave, may_of, may_parts, meaning, Op, op_at, option_to_list, or-true, or_cases, or_left, point_of, pointed, Processor, processor_at, processor_kind, ProcessorFacts, setup_for, ShapesAreGood, started, State, state_of, takes, Task, TellsScan, TellsStacks, those, view, Words, words}
 use Rattle.gh_state.specs.Moves as state
 use Rattle.gh_marked.specs.Endings.{acted_stays, acts_end, end_ends, ended_by, is_its_end, last_before, last_begun}
 use Rattle.gh_marked.proofs.OneStep.Globals.{no_global}
@@ -261,7 +261,7 @@ module _ (given : Given) (good : ShapesAreGood given.shapes) (limits : IsInLimit
     -- What it was answered.
 
     abbrev first : Words
-    first = opening_words given.pacing.trigger
+    first = first_words (setup_for given)
 
     abbrev answer_of_act : AnsweredDeed Act Answer → Answer
     answer_of_act x = x.answer

@@ -30,5 +30,5 @@ returns-clause-opens c =
     c.in_ok-coord.ensures.opens ∙ ap (λ (s : Settings). coord.opening l (s.procs + s.workers) s.gogc s.minheap c.most_cycles-cycles.result) c.settings-settings.ensures
     ∙ ap (λ (k : ℕ). coord.opening l (p.settings.procs + p.settings.workers) p.settings.gogc p.settings.minheap k) c.most_cycles-cycles.ensures.is
     ∙ ap (λ (k : ℕ). coord.opening l k p.settings.gogc p.settings.minheap (most_cycles p)) seat in
-    let shows : ShowsCells l c.in_ok-words.words (setting_of p l).opening = subst (λ (n : ℕ). ShowsCells l c.in_ok-words.words (opening_words n)) c.opening_trigger-trigger.ensures c.in_ok-words.ensures in
+    let shows : ShowsCells l c.in_ok-words.words (setting_of p l).opening = subst (λ (n : ℕ). ShowsCells l c.in_ok-words.words (opening_words l n)) c.opening_trigger-trigger.ensures c.in_ok-words.ensures in
     rw (c.in_ok-workers.ensures, leads, c.in_ok-points.ensures.items) (of_parts _ _ (after_opens p l c.in_ok-words.words c.in_ok-runners.runners.items shows c.in_ok-runners.ensures) (all_workers l))
