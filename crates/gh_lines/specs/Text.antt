@@ -121,8 +121,12 @@ why_word Unknown = codes "unknown"
 why_word Nesting = codes "nesting"
 why_word Missing = codes "missing"
 
+-- a text that is refused: its first line that is at fault, and the cause in one word
+abbrev pub bad_text_line : ℕ → List ℕ → List ℕ
+bad_text_line line why = codes "line " ++ decimal line ++ codes ": " ++ why ++ codes "\n"
+
 abbrev pub refusal_line : ℕ → Why → List ℕ
-refusal_line line why = codes "line " ++ decimal line ++ codes ": " ++ why_word why ++ codes "\n"
+refusal_line line why = bad_text_line line (why_word why)
 
 abbrev pub words_refused_line : List ℕ
 words_refused_line = codes "words refused\n"

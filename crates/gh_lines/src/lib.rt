@@ -9,6 +9,7 @@
 
 mod answer;
 mod buffer;
+mod dump;
 mod refusal;
 mod totals;
 

@@ -1,7 +1,7 @@
 //! What is told where nothing was run.
 
 ghost use Rattle.std.specs.Prelude.{◌≡◌, ◌≤◌, length};
-ghost use Rattle.gh_lines.specs.Text.{refusal_line, why_word, words_refused_line};
+ghost use Rattle.gh_lines.specs.Text.{bad_text_line, refusal_line, why_word, words_refused_line};
 
 use crate::LineBuf;
 use gh_script::Why;
@@ -30,10 +30,19 @@ impl LineBuf {
     pub fn bad_script(&mut self, line: u32, why: Why)
         ensures { self.new ≡ refusal_line line why }
     {
+        self.bad_text(line, why_word(why));
+    }
+
+    /// `line n: why`: a text that is refused, by its first line that is at fault (0: no line) and the
+    /// cause, a word of at most 64 bytes.
+    pub fn bad_text(&mut self, line: u32, why: &[u8])
+        requires { length why.now ≤ 64 }
+        ensures { self.new ≡ bad_text_line line why.now }
+    {
         self.begin(b"line ");
         self.put_number(u64::from(line));
         self.put(b": ");
-        self.put(why_word(why));
+        self.put(why);
         self.put(b"\n");
     }
 

@@ -33,6 +33,8 @@ pub use generated::{
     generate, generated_goroutines_keep_apart, generated_scripts_have_their_size,
     generated_scripts_spell,
 };
+pub use line::{Sentence, behind, feed_index, next_word, stripped, words};
 pub use reading::{MOST_BYTES, one_reading, parse};
 pub use script::Script;
 pub use statement::{Settings, Stmt};
+pub use word::{is_name, number};

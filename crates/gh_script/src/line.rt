@@ -78,7 +78,7 @@ fn blank_count(line: &[u8]) -> usize
 }
 
 /// The first word, and what follows it; both are empty where there is no word.
-fn next_word(line: &[u8]) -> (&[u8], &[u8])
+pub fn next_word(line: &[u8]) -> (&[u8], &[u8])
     ensures cut { words_of line.now ≡ word_in_front result.0.now (words_of result.1.now) }
     ensures none { length result.0.now ≡ 0 → length result.1.now ≡ 0 }
     ensures rest { length result.0.now + length result.1.now ≤ length line.now }

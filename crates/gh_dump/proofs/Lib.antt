@@ -1,0 +1,14 @@
+pub mod Lists
+pub mod Lines
+pub mod Certified
+pub mod Verdicts
+pub mod Letters
+pub mod Rows
+pub mod Growing
+pub mod Noted
+pub mod Words
+pub mod Indexed
+pub mod Firsts
+pub mod Rest
+pub mod Befores
+pub mod Ended

@@ -1,0 +1,10 @@
+pub mod Vocabulary
+pub mod Names
+pub mod Items
+pub mod Listing
+pub mod Causes
+pub mod Verdict
+pub mod Certificate
+pub mod Kept
+pub mod Index
+pub mod Read
