@@ -22,6 +22,9 @@ usage: goheap.sh replay [--seed n] [--list text] [--budget n] [--check] < file
          writes a script of four goroutines with size / 4 statements each, drawn from the seed
        goheap.sh soak --seed n --size n
          runs that script in threads, and writes how many statements it has and what is live at its end
+       goheap.sh verify < file
+         checks a dump of a heap as a certificate, and writes how many objects it lists, all of them reached, or its first line that is wrong
+         (docs/DUMP.md)
        goheap.sh example name
          runs examples/name.heap, with the words that its second line has for it
        goheap.sh steps [--pacing] [--list text] < file
@@ -148,6 +151,13 @@ threads() {
   run_and_end run "$@"
 }
 
+verify() {
+  case $* in '' | --) ;; *) refuse "'$*' is not what verify takes, which is nothing but a dump" ;; esac
+  text=''
+  choose_program goheap
+  run_and_end verify "$@"
+}
+
 generated() {
   check_generated "$@"
   text=''
@@ -180,6 +190,7 @@ esac
 case "${1-}" in
   replay) replay "${@:2}" ;;
   run) threads "${@:2}" ;;
+  verify) verify "${@:2}" ;;
   gen | soak) generated "$@" ;;
   example) example "${@:2}" ;;
   steps) steps "${@:2}" ;;

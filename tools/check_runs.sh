@@ -8,6 +8,7 @@
 #   NAME.words     further command lines, one a line, and NAME.turns those of which each ends after so many turns
 #   NAME.steps     at which step of which actor something happens (tools/check_steps.sh)
 #   scripts.refused  the answer, and behind a tab a text that is no script, its lines parted by `|`
+#   dumps.told       the status, the answer, and behind tabs a text for `verify`, its lines parted by `|`
 #   words.refused    command lines that are none, each word with a `|` behind it
 #   generated.text   the script of seed 7 and size 12, worked out by a program that has nothing of this repository
 set -u
@@ -66,13 +67,19 @@ of_one() {
 
 # Texts that are no scripts, and command lines that are none.
 refused() {
-  local answer text words n=0
+  local code answer text words n=0
   while IFS=$'\t' read -r answer text; do
     n=$((n + 1))
     echo "$answer" >"$work/answer.$n"
     printf '%b' "${text//|/\\n}" >"$work/text.$n"
     run all "$work/answer.$n" 3 "$work/text.$n" replay
   done <runs/scripts.refused
+  while IFS=$'\t' read -r code answer text; do
+    n=$((n + 1))
+    echo "$answer" >"$work/answer.$n"
+    printf '%b' "${text//|/\\n}" >"$work/text.$n"
+    run all "$work/answer.$n" "$code" "$work/text.$n" verify
+  done <runs/dumps.told
   echo 'words refused' >"$work/refused"
   while IFS='|' read -r -a words; do run all "$work/refused" 2 /dev/null "${words[@]}"; done <runs/words.refused
   run all "$work/refused" 2 /dev/null

@@ -1,6 +1,6 @@
 -- The parser's line is the command line.
 use Rattle.std.proofs.Common.{◌≡◌, ◌∙◌, ◌++◌, Bool, true, false, refl, sym, ap, subst, true≢false, List, [], ◌∷◌, codes, is_some, Option, Some, None, ◌⊎◌, if◌then◌else◌, append-nil, append_assoc, arith}
-use Rattle.gh_command.proofs.Vocabulary.{App, built, bundle_met, bytes_eq, bytes_eq-Decides, check_fault, command_line, defaults_fault, entered, entered_fault, fault_of, finished, flags_fault, fold, found_line, found_replay, found_run, found_script, Gen, goheap_app, is_simple, is_simple_and_free, IsAmong, Kinds, level_fault, Line, long_of, Names, names_of, no_error_comes, nothing_held, or_else, parsed_line, replay_options, Row, rows_after, Rule, run_options, script_options, settle_fault, settled, Shape, short_of, Soak, subcommand_of, Text, turn_fault, Walk, walk_fault, walk_from, walked}
+use Rattle.gh_command.proofs.Vocabulary.{App, built, bundle_met, bytes_eq, bytes_eq-Decides, check_fault, command_line, defaults_fault, entered, entered_fault, fault_of, finished, flags_fault, fold, found_line, found_plain, found_replay, found_script, Gen, goheap_app, is_simple, is_simple_and_free, IsAmong, Kinds, level_fault, Line, long_of, Names, names_of, no_error_comes, no_options, nothing_held, or_else, parsed_line, replay_options, Row, rows_after, Rule, Run, script_options, settle_fault, settled, Shape, short_of, Soak, subcommand_of, Text, turn_fault, Verify, Walk, walk_fault, walk_from, walked}
 use Rattle.clap.specs.declared.error.kind.ErrorKind.{ErrorKind}
 use Rattle.clap.specs.declared.error.kind.ErrorKind.TheVariants.{OutOfMemory}
 use Rattle.clap.proofs.FaultLemmas.{stopped_fault}
@@ -8,7 +8,7 @@ use Rattle.clap.proofs.OnLiterals.{clap_on_literals}
 use Rattle.gh_command.proofs.CommandLineChoices.{parsed_choices}
 use Rattle.gh_command.proofs.CommandLineEnd.{Sub, leaf}
 use Rattle.gh_command.proofs.CommandLineRules.{rules, same_text}
-use Rattle.gh_command.proofs.CommandLineSubs.{replay_read, replay_sub, run_read, run_sub, script_read, script_sub}
+use Rattle.gh_command.proofs.CommandLineSubs.{plain_read, plain_sub, replay_read, replay_sub, script_read, script_sub}
 use Rattle.gh_command.proofs.CommandLineWalk.{dashes, parsed}
 
 -- ---- the words of the command itself
@@ -31,6 +31,9 @@ gen = codes "gen"
 
 abbrev soak : Text
 soak = codes "soak"
+
+abbrev verify : Text
+verify = codes "verify"
 
 -- the line where the words come to this fault and the walk ends so
 abbrev line_by : Kinds → Walk → Option Line
@@ -55,10 +58,11 @@ stopped_at name words = record (walk_from nothing_held) { stopped = Some (name, 
 
 -- a subcommand of the command
 data Entered : Sub → Type 0 where
-  runs : Entered run_sub
+  runs : Entered (plain_sub run Run)
   replays : Entered replay_sub
   generates : Entered (script_sub gen Gen)
   soaks : Entered (script_sub soak Soak)
+  verifies : Entered (plain_sub verify Verify)
 
 entered_fault_is : (s : Sub) → Entered s → (words : List Text) → walk_fault top names (walk_from nothing_held) (s.name ∷ words) ≡ []
 unfolding walk_fault walked
@@ -66,6 +70,7 @@ entered_fault_is _ runs words = stopped_fault top names (walk_from nothing_held)
 entered_fault_is _ replays words = stopped_fault top names (walk_from nothing_held) (replay, []) words
 entered_fault_is _ generates words = stopped_fault top names (walk_from nothing_held) (gen, []) words
 entered_fault_is _ soaks words = stopped_fault top names (walk_from nothing_held) (soak, []) words
+entered_fault_is _ verifies words = stopped_fault top names (walk_from nothing_held) (verify, []) words
 
 entered_walk : (s : Sub) → Entered s → (words : List Text) → fold (walked top.rules names) (walk_from nothing_held) (s.name ∷ words) ≡ stopped_at s.name words
 unfolding walked
@@ -73,16 +78,18 @@ entered_walk _ runs words = stopped_is top.rules names (walk_from nothing_held) 
 entered_walk _ replays words = stopped_is top.rules names (walk_from nothing_held) replay [] words
 entered_walk _ generates words = stopped_is top.rules names (walk_from nothing_held) gen [] words
 entered_walk _ soaks words = stopped_is top.rules names (walk_from nothing_held) soak [] words
+entered_walk _ verifies words = stopped_is top.rules names (walk_from nothing_held) verify [] words
 
 below : (fault : Kinds) (found : Option Line) → (if no_error_comes (or_else fault []) then found else None) ≡ (if no_error_comes fault then found else None)
 below fault found = grind arith
 
 entered_line : (s : Sub) → Entered s → (words : List Text) → line_by [] (stopped_at s.name words) ≡ parsed s words
 unfolding defaults_fault
-entered_line _ runs words = below (level_fault (leaf run_sub) [] nothing_held words false []) (found_run (rows_after (rules run_options) [] words))
+entered_line _ runs words = below (level_fault (leaf (plain_sub run Run)) [] nothing_held words false []) (found_plain Run (rows_after (rules no_options) [] words))
 entered_line _ replays words = below (level_fault (leaf replay_sub) [] nothing_held words false []) (found_replay (rows_after (rules replay_options) [] words))
 entered_line _ generates words = below (level_fault (leaf (script_sub gen Gen)) [] nothing_held words false []) (found_script Gen (rows_after (rules script_options) [] words))
 entered_line _ soaks words = below (level_fault (leaf (script_sub soak Soak)) [] nothing_held words false []) (found_script Soak (rows_after (rules script_options) [] words))
+entered_line _ verifies words = below (level_fault (leaf (plain_sub verify Verify)) [] nothing_held words false []) (found_plain Verify (rows_after (rules no_options) [] words))
 
 entered_is : (s : Sub) → Entered s → (program : Text) (words : List Text) → parsed_line (program ∷ s.name ∷ words) ≡ parsed s words
 entered_is s is program words = grind (arith, by_walk, entered_fault_is, entered_line, entered_walk)
@@ -102,6 +109,7 @@ record IsOther (name : Text) : Type 0 where
   no_replay : bytes_eq replay name ≡ false
   no_gen : bytes_eq gen name ≡ false
   no_soak : bytes_eq soak name ≡ false
+  no_verify : bytes_eq verify name ≡ false
 
 turn_fails : (name : Text) → IsOther name → bytes_eq name dashes ≡ false → no_error_comes (turn_fault top names (walk_from nothing_held) name) ≡ false
 unfolding flags_fault bundle_met
@@ -144,13 +152,13 @@ apart a b differ = go (bytes_eq a b) refl
 pub parsed_is : (words : List Text) → parsed_line words ≡ command_line words
 parsed_is [] = no_words
 parsed_is (program ∷ []) = no_subcommand program
-parsed_is (program ∷ name ∷ rest) = go (bytes_eq name run) refl (bytes_eq name replay) refl (bytes_eq name gen) refl (bytes_eq name soak) refl
+parsed_is (program ∷ name ∷ rest) = go (bytes_eq name run) refl (bytes_eq name replay) refl (bytes_eq name gen) refl (bytes_eq name soak) refl (bytes_eq name verify) refl
   where
     is_at : Text → Type 0
     is_at n = parsed_line (program ∷ n ∷ rest) ≡ command_line (program ∷ n ∷ rest)
 
     at_run : is_at run
-    at_run = entered_is run_sub runs program rest ∙ parsed_choices run_sub run_read rest
+    at_run = entered_is (plain_sub run Run) runs program rest ∙ parsed_choices (plain_sub run Run) (plain_read run Run) rest
 
     at_replay : is_at replay
     at_replay = entered_is replay_sub replays program rest ∙ parsed_choices replay_sub replay_read rest
@@ -161,14 +169,18 @@ parsed_is (program ∷ name ∷ rest) = go (bytes_eq name run) refl (bytes_eq na
     at_soak : is_at soak
     at_soak = entered_is (script_sub soak Soak) soaks program rest ∙ parsed_choices (script_sub soak Soak) (script_read soak Soak) rest
 
-    go : (a : Bool) → bytes_eq name run ≡ a → (b : Bool) → bytes_eq name replay ≡ b → (c : Bool) → bytes_eq name gen ≡ c → (d : Bool) → bytes_eq name soak ≡ d → is_at name
-    go true p b q c r d s = subst is_at (sym ((bytes_eq-Decides name run).0 p)) at_run
-    go false p true q c r d s = subst is_at (sym ((bytes_eq-Decides name replay).0 q)) at_replay
-    go false p false q true r d s = subst is_at (sym ((bytes_eq-Decides name gen).0 r)) at_gen
-    go false p false q false r true s = subst is_at (sym ((bytes_eq-Decides name soak).0 s)) at_soak
-    go false p false q false r false s =
-        other_fails program name rest (record { no_run = apart run name p; no_replay = apart replay name q; no_gen = apart gen name r; no_soak = apart soak name s })
-        ∙ rw (p, q, r, s) refl
+    at_verify : is_at verify
+    at_verify = entered_is (plain_sub verify Verify) verifies program rest ∙ parsed_choices (plain_sub verify Verify) (plain_read verify Verify) rest
+
+    go : (a : Bool) → bytes_eq name run ≡ a → (b : Bool) → bytes_eq name replay ≡ b → (c : Bool) → bytes_eq name gen ≡ c → (d : Bool) → bytes_eq name soak ≡ d → (e : Bool) → bytes_eq name verify ≡ e → is_at name
+    go true p b q c r d s e t = subst is_at (sym ((bytes_eq-Decides name run).0 p)) at_run
+    go false p true q c r d s e t = subst is_at (sym ((bytes_eq-Decides name replay).0 q)) at_replay
+    go false p false q true r d s e t = subst is_at (sym ((bytes_eq-Decides name gen).0 r)) at_gen
+    go false p false q false r true s e t = subst is_at (sym ((bytes_eq-Decides name soak).0 s)) at_soak
+    go false p false q false r false s true t = subst is_at (sym ((bytes_eq-Decides name verify).0 t)) at_verify
+    go false p false q false r false s false t =
+        other_fails program name rest (record { no_run = apart run name p; no_replay = apart replay name q; no_gen = apart gen name r; no_soak = apart soak name s; no_verify = apart verify name t })
+        ∙ rw (p, q, r, s, t) refl
 
 -- ---- an error of the parser
 

@@ -1,6 +1,6 @@
 -- The numbers of a line that is taken are in their ranges.
 use Rattle.std.proofs.Common.{◌≡◌, ◌≤◌, ◌||◌, ◌++◌, ℕ, Bool, true, false, not, refl, ap, subst, List, [], ◌∷◌, Option, Some, None, codes, arith, find, if◌then◌else◌, option_and_then, option_map}
-use Rattle.gh_command.proofs.Vocabulary.{asked_for, begun, budget, bytes_eq, bytes_eq-Decides, Choice, choices, chosen, command_line, ended, flag_value, Gen, is_chosen, is_end, is_flag, is_number_in, is_value, Line, LineOption, long_of, next, number_said, option_or, option_takes, Reading, Replay, replay_by, replay_of, replay_options, run_of, run_options, script_asked_for, script_by, script_options, seed, size, Soak, Text, Turn, u64_of, with_choice, with_flag}
+use Rattle.gh_command.proofs.Vocabulary.{asked_for, begun, budget, bytes_eq, bytes_eq-Decides, Choice, choices, chosen, command_line, ended, flag_value, Gen, is_chosen, is_end, is_flag, is_number_in, is_value, Line, LineOption, long_of, next, no_options, number_said, option_or, option_takes, plain_of, Reading, Replay, replay_by, replay_of, replay_options, Run, script_asked_for, script_by, script_options, seed, size, Soak, Text, Turn, u64_of, Verify, with_choice, with_flag}
 
 -- ---- each choice is a flag, or of a value that its option takes
 
@@ -126,8 +126,11 @@ gen_in drawn many is = grind arith
 soak_in : (drawn many : Option ℕ) → ((n : ℕ) → many ≡ Some n → IsIn 4 200000 n) → IsInRange (script_by Soak drawn many)
 soak_in drawn many is = grind arith
 
-run_asked : (o : Option (List Choice)) → IsInRange (option_and_then run_of o)
+run_asked : (o : Option (List Choice)) → IsInRange (option_and_then (plain_of Run) o)
 run_asked o = grind arith
+
+verify_asked : (o : Option (List Choice)) → IsInRange (option_and_then (plain_of Verify) o)
+verify_asked o = grind arith
 
 replay_asked : (o : Option (List Choice)) → TakenBy replay_options o → IsInRange (option_and_then replay_of o)
 replay_asked None t = tt
@@ -149,14 +152,16 @@ soak_asked (Some made) t = soak_in (number_said seed made) (number_said size mad
 pub numbers_in_range : (words : List Text) → IsInRange (command_line words)
 numbers_in_range [] = tt
 numbers_in_range (program ∷ []) = tt
-numbers_in_range (program ∷ name ∷ words) = go (bytes_eq name (codes "run")) (bytes_eq name (codes "replay")) (bytes_eq name (codes "gen")) (bytes_eq name (codes "soak"))
+numbers_in_range (program ∷ name ∷ words) = go (bytes_eq name (codes "run")) (bytes_eq name (codes "replay")) (bytes_eq name (codes "gen")) (bytes_eq name (codes "soak")) (bytes_eq name (codes "verify"))
   where
-    go : (a b c d : Bool)
-        → IsInRange (if a then asked_for run_options run_of words
+    go : (a b c d e : Bool)
+        → IsInRange (if a then asked_for no_options (plain_of Run) words
         else (if b then asked_for replay_options replay_of words
-        else (if c then asked_for script_options (script_asked_for Gen) words else (if d then asked_for script_options (script_asked_for Soak) words else None))))
-    go true b c d = run_asked (choices run_options [] None words)
-    go false true c d = replay_asked (choices replay_options [] None words) (taken_words replay_options words [] None tt)
-    go false false true d = gen_asked (choices script_options [] None words) (taken_words script_options words [] None tt)
-    go false false false true = soak_asked (choices script_options [] None words) (taken_words script_options words [] None tt)
-    go false false false false = tt
+        else (if c then asked_for script_options (script_asked_for Gen) words
+        else (if d then asked_for script_options (script_asked_for Soak) words else (if e then asked_for no_options (plain_of Verify) words else None)))))
+    go true b c d e = run_asked (choices no_options [] None words)
+    go false true c d e = replay_asked (choices replay_options [] None words) (taken_words replay_options words [] None tt)
+    go false false true d e = gen_asked (choices script_options [] None words) (taken_words script_options words [] None tt)
+    go false false false true e = soak_asked (choices script_options [] None words) (taken_words script_options words [] None tt)
+    go false false false false true = verify_asked (choices no_options [] None words)
+    go false false false false false = tt

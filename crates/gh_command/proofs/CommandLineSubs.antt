@@ -1,11 +1,12 @@
 -- The subcommands, and what is found of the choices of each.
 use Rattle.std.proofs.Common.{◌≡◌, ◌∙◌, ℕ, Bool, refl, ap, ap₂, List, Option, Some, None, codes, arith, option_and_then, slice_get}
-use Rattle.gh_command.proofs.Vocabulary.{budget, Choice, chosen, first_of, found_check, found_list, found_replay, found_run, found_script, is_given, Line, LineOption, list_said, number_said, one_of, option_or, replay_by, replay_of, replay_options, Row, row_text, run_of, run_options, script_asked_for, script_by, script_options, seed, Text, Turn, u64_of}
+use Rattle.gh_command.proofs.Vocabulary.{budget, Choice, chosen, first_of, found_check, found_list, found_plain, found_replay, found_script, is_given, Line, LineOption, list_said, no_options, number_said, one_of, option_or, plain_of, replay_by, replay_of, replay_options, Row, row_text, script_asked_for, script_by, script_options, seed, Text, Turn, u64_of}
 use Rattle.gh_command.proofs.CommandLineEnd.{IsRead, Sub, default_named, defaulted, found_defaulted}
 use Rattle.gh_command.proofs.CommandLineRows.{read_made, rows_made}
 
-abbrev pub run_sub : Sub
-run_sub = record { name = codes "run"; options = run_options; found = found_run; of = run_of }
+-- `run` and `verify`
+abbrev pub plain_sub : Text → Line → Sub
+plain_sub name line = record { name = name; options = no_options; found = found_plain line; of = plain_of line }
 
 abbrev pub replay_sub : Sub
 replay_sub = record { name = codes "replay"; options = replay_options; found = found_replay; of = replay_of }
@@ -32,8 +33,8 @@ given_default o = grind arith
 
 -- ---- what is found of a line
 
-pub run_read : IsRead run_sub
-run_read = record { fitting = refl; same = λ made. refl }
+pub plain_read : (name : Text) (line : Line) → IsRead (plain_sub name line)
+plain_read name line = record { fitting = refl; same = λ made. refl }
 
 found_replay_is : (made : List Choice) → found_replay (defaulted replay_options (rows_made made)) ≡ replay_of made
 found_replay_is made =

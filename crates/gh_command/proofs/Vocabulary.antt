@@ -18,8 +18,8 @@ pub use Rattle.clap.specs.Walk.{arg_by_id, arg_by_index, arg_by_long, arg_by_sho
 unfoldable pub use Rattle.clap.specs.Walk.{bundle_met, walked}
 pub use Rattle.clap.specs.Words.{app_of, first_of, found_of, rows_of, subcommand_rows_of}
 pub use Rattle.clap.specs.declared.parser.matches.ValueSource.TheVariants.{CommandLine, DefaultValue}
-pub use Rattle.gh_command.specs.CommandLine.{AnyText, asked_for, begun, budget, Choice, choices, chosen, command_line, ended, flag_value, has_required, is_chosen, is_end, is_flag, is_given, is_none, is_number_in, is_numeral, is_taken_by, is_value, LineOption, list_said, next, NoValue, Number, number_said, option_named, option_takes, Reading, replay_by, replay_of, replay_options, run_of, run_options, script_asked_for, script_by, script_options, seed, size, Text, texts, u64_of, Value, with_choice, with_flag}
-pub use Rattle.gh_command.specs.CommandLineParser.{found_check, found_line, found_list, found_number, found_replay, found_run, found_script, goheap_app, no_error_comes, option_rule, parsed_line, subcommand_shape}
+pub use Rattle.gh_command.specs.CommandLine.{AnyText, asked_for, begun, budget, Choice, choices, chosen, command_line, ended, flag_value, has_required, is_chosen, is_end, is_flag, is_given, is_none, is_number_in, is_numeral, is_taken_by, is_value, LineOption, list_said, next, no_options, NoValue, Number, number_said, option_named, option_takes, plain_of, Reading, replay_by, replay_of, replay_options, script_asked_for, script_by, script_options, seed, size, Text, texts, u64_of, Value, with_choice, with_flag}
+pub use Rattle.gh_command.specs.CommandLineParser.{found_check, found_line, found_list, found_number, found_plain, found_replay, found_script, goheap_app, no_error_comes, option_rule, parsed_line, subcommand_shape}
 pub use Rattle.gh_command.specs.declared.line.Line.{Line}
-pub use Rattle.gh_command.specs.declared.line.Line.TheVariants.{Gen, Replay, Soak}
+pub use Rattle.gh_command.specs.declared.line.Line.TheVariants.{Gen, Replay, Run, Soak, Verify}
 pub use Rattle.gh_replay.specs.declared.schedule.Turn.{Turn}

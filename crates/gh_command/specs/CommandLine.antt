@@ -192,9 +192,9 @@ check = option_of (codes "check") NoValue
 abbrev pub size : LineOption
 size = option_of (codes "size") (Number 4 200000)
 
--- `run` takes none
-abbrev pub run_options : List LineOption
-run_options = []
+-- `run` and `verify` take none
+abbrev pub no_options : List LineOption
+no_options = []
 
 abbrev pub replay_options : List LineOption
 replay_options = budget ∷ seed ∷ list ∷ check ∷ []
@@ -203,8 +203,9 @@ replay_options = budget ∷ seed ∷ list ∷ check ∷ []
 abbrev pub script_options : List LineOption
 script_options = required seed ∷ required size ∷ []
 
-abbrev pub run_of : List Choice → Option Line
-run_of made = Some Line.Run
+-- a line that no choice says more of
+abbrev pub plain_of : Line → List Choice → Option Line
+plain_of line made = Some line
 
 -- a replay under a budget, with a seed or none, and a list, which is checked or not
 abbrev pub replay_by : Option ℕ → Option ℕ → Option (List Turn) → Bool → Option Line
@@ -234,11 +235,12 @@ asked_for options of words = option_and_then of (choices options [] None words)
 -- the line of a subcommand and the words that follow its name
 abbrev pub subcommand_line : Text → List Text → Option Line
 subcommand_line name words =
-    if bytes_eq name (codes "run") then asked_for run_options run_of words
+    if bytes_eq name (codes "run") then asked_for no_options (plain_of Line.Run) words
     else (if bytes_eq name (codes "replay") then asked_for replay_options replay_of words
     else (if bytes_eq name (codes "gen") then asked_for script_options (script_asked_for Line.Gen) words
     else (if bytes_eq name (codes "soak") then asked_for script_options (script_asked_for Line.Soak) words
-    else None)))
+    else (if bytes_eq name (codes "verify") then asked_for no_options (plain_of Line.Verify) words
+    else None))))
 
 -- what the words ask for, none where the command does not take them: the program's name, a
 -- subcommand, and its words: each option at most once, in any order, and each that is required

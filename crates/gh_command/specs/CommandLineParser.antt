@@ -6,7 +6,7 @@ use Rattle.clap.specs.declared.builder.action.ArgAction.{ArgAction}
 use Rattle.clap.specs.declared.builder.action.ArgAction.TheVariants.{Set, SetTrue}
 use Rattle.clap.specs.declared.builder.value_parser.ValueParser.{ValueParser}
 use Rattle.gh_replay.specs.declared.schedule.Turn.{Turn}
-use Rattle.gh_command.specs.CommandLine.{LineOption, Text, Value, NoValue, Number, is_given, list_said, replay_by, replay_options, run_options, script_by, script_options, u64_of}
+use Rattle.gh_command.specs.CommandLine.{LineOption, Text, Value, NoValue, Number, is_given, list_said, no_options, replay_by, replay_options, script_by, script_options, u64_of}
 use Rattle.gh_command.specs.declared.line.Line.{Line}
 
 -- a flag sets its value, and another option takes it from the words
@@ -49,9 +49,9 @@ goheap_top = record {
   subs = [];
 }
 
--- with those that read a script
+-- with those that read a text
 abbrev pub goheap_reading : App
-goheap_reading = with_subcommand (with_subcommand goheap_top (subcommand_shape (codes "run") run_options)) (subcommand_shape (codes "replay") replay_options)
+goheap_reading = with_subcommand (with_subcommand (with_subcommand goheap_top (subcommand_shape (codes "run") no_options)) (subcommand_shape (codes "replay") replay_options)) (subcommand_shape (codes "verify") no_options)
 
 -- the command
 abbrev pub goheap_app : App
@@ -69,9 +69,9 @@ found_list rows = list_said (first_of (codes "list") rows)
 abbrev pub found_check : List Row → Bool
 found_check rows = is_given (first_of (codes "check") rows)
 
--- the run
-abbrev pub found_run : List Row → Option Line
-found_run rows = Some Line.Run
+-- a line of which nothing more is found
+abbrev pub found_plain : Line → List Row → Option Line
+found_plain line rows = Some line
 
 -- the replay that was found
 abbrev pub found_replay : List Row → Option Line
@@ -85,11 +85,12 @@ found_script does rows = script_by does (found_number (codes "seed") rows) (foun
 abbrev pub found_line : Option (Text × List Row) → Option Line
 found_line None = None
 found_line (Some found) =
-    if bytes_eq found.0 (codes "run") then found_run found.1
+    if bytes_eq found.0 (codes "run") then found_plain Line.Run found.1
     else (if bytes_eq found.0 (codes "replay") then found_replay found.1
     else (if bytes_eq found.0 (codes "gen") then found_script Line.Gen found.1
     else (if bytes_eq found.0 (codes "soak") then found_script Line.Soak found.1
-    else None)))
+    else (if bytes_eq found.0 (codes "verify") then found_plain Line.Verify found.1
+    else None))))
 
 -- no kind of error comes
 abbrev pub no_error_comes : Kinds → Bool

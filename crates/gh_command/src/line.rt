@@ -1,6 +1,6 @@
 //! What the command line asks for.
 ghost use Rattle.std.specs.Prelude.{◌≡◌, IfOk, codes, false, option_map};
-ghost use Rattle.gh_command.specs.CommandLine.{budget, check, command_line, list, option_of, replay_options, required, run_options, script_options, seed, size, texts};
+ghost use Rattle.gh_command.specs.CommandLine.{budget, check, command_line, list, no_options, option_of, replay_options, required, script_options, seed, size, texts};
 ghost use Rattle.gh_command.specs.CommandLine.Value.{Number};
 ghost use Rattle.gh_command.specs.CommandLineParser.{found_check, found_line, found_list, found_number, found_replay, found_script};
 ghost use Rattle.gh_command.specs.CommandLineParser.{goheap_app, goheap_reading, goheap_top, option_rule, subcommand_shape};
@@ -43,12 +43,14 @@ pub enum Line {
         /// As of `Gen`.
         size: u64,
     },
+    /// Verify a dump of a heap.
+    Verify,
 }
 
 /// What the words ask for, the first of them the program's name: none where the command does not
 /// take them. It takes
 ///
-/// - `run`;
+/// - `run` and `verify`;
 /// - `replay`, with at most one each of `--seed n`, `--list text`, `--budget n` and `--check`;
 /// - `gen` and `soak`, each with one `--seed n` and one `--size n`.
 ///
@@ -82,6 +84,7 @@ fn line_in(alloc: Global, matches: &ArgMatches<'_>) -> Result<Option<Line>, Allo
         "replay" => replay_in(alloc, found),
         "gen" => Ok(gen_in(found)),
         "soak" => Ok(soak_in(found)),
+        "verify" => Ok(Some(Line::Verify)),
         _ => Ok(None),
     }
 }
@@ -162,14 +165,15 @@ fn goheap_command<'a>(alloc: Global) -> Result<Command<'a>, AllocError>
     Ok(command)
 }
 
-// The command with the subcommands that read a script.
+// The command with the subcommands that read a text.
 fn reading_command<'a>(alloc: Global) -> Result<Command<'a>, AllocError>
     ensures { IfOk result (λ command. app_of command ≡ goheap_reading) }
 {
     let replay = replay_command(alloc)?;
     let command = bare_command(alloc)
-        .subcommand(run_command(alloc))?
-        .subcommand(replay)?;
+        .subcommand(plain_command(alloc, "run"))?
+        .subcommand(replay)?
+        .subcommand(plain_command(alloc, "verify"))?;
     Ok(command)
 }
 
@@ -184,12 +188,12 @@ fn bare_command<'a>(alloc: Global) -> Command<'a>
         .disable_version_flag(true)
 }
 
-// The subcommand `run`, which has no options.
-fn run_command<'a>(alloc: Global) -> Command<'a>
-    ensures shape { shape_of result ≡ subcommand_shape (codes "run") run_options }
+// The subcommand of this name, which has no options.
+fn plain_command<'a>(alloc: Global, name: &'a str) -> Command<'a>
+    ensures shape { shape_of result ≡ subcommand_shape name.entry.now no_options }
     ensures local { (fields_of result).has_globals ≡ false }
 {
-    Command::new(alloc, "run")
+    Command::new(alloc, name)
 }
 
 // The subcommand `replay`, with its options.

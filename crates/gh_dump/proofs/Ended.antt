@@ -1,12 +1,12 @@
 -- The verdict at the end of both readings.
-use Rattle.std.proofs.Common.{◌≡◌, ℕ, zero, suc, ◌<◌, ◌≤◌, ◌==◌, ◌&&◌, Bool, true, false, not, cond, List, length, Option, Some, None, Result, Ok, Err, refl, sym, ap, ◌∙◌, subst, arith, inl, inr}
+use Rattle.std.proofs.Common.{◌≡◌, ℕ, zero, suc, ◌<◌, ◌≤◌, ◌==◌, ◌&&◌, Bool, true, false, not, cond, List, length, take, ◌+◌, Option, Some, None, Result, Ok, Err, refl, sym, ap, ◌∙◌, subst, arith, inl, inr, take_all, length-take-le}
 use Rattle.std.proofs.lemmas.Bool.{cases_lt}
 use Rattle.std.proofs.lemmas.Bool.Decides.{nat_tests}
 use Rattle.gh_dump.specs.Index.{Indexes}
 use Rattle.gh_dump.specs.Items.{items_of}
 use Rattle.gh_dump.specs.Listing.{is_total}
 use Rattle.gh_dump.specs.Read.{AreRight, IsFirstFault}
-use Rattle.gh_dump.specs.Verdict.{Accepts, AnswersCount, AnswersFault, cause_at, end_cause, Faults, IsVerdict, line_cause, most_bytes, own_cause, size_cause}
+use Rattle.gh_dump.specs.Verdict.{Accepts, AnswersCount, AnswersFault, cause_at, end_cause, Faults, HaveOneVerdict, IsVerdict, line_cause, most_bytes, own_cause, size_cause}
 use Rattle.gh_dump.specs.Vocabulary.{DumpFault, DumpWhy, Item, list_any}
 use Rattle.gh_dump.specs.declared.before.Before.{Before}
 use Rattle.gh_dump.specs.declared.fault.VerifyError.{VerifyError}
@@ -103,3 +103,34 @@ answers_fault text (Err (Dump fault)) v line why f =
 
 pub refusal : (text : List ℕ) (r : Result ℕ VerifyError) → IsVerdict text r → (fault : DumpFault) → r ≡ Err (Dump fault) → Faults text fault.line fault.why
 refusal text r v fault e = subst (IsVerdict text) e v
+
+-- ---- a text that is too long
+
+pub accepted_short : (text : List ℕ) (n : ℕ) → Accepts text n → length text ≤ most_bytes
+accepted_short text n a = elim (cases_lt most_bytes (length text)) [
+  | inl long ↦ absurd (not_both text n 0 Size a (too_long text long))
+  | inr short ↦ short
+]
+
+-- what a text that is too long is refused for
+too_long_cut : (a b : List ℕ) → Faults a 0 Size → Faults b 0 Size → HaveOneVerdict a b
+too_long_cut a b f g = record {
+  accepted = λ n h. absurd (not_both a n 0 Size h f);
+  refused = λ line why h.
+      let same = one_fault a 0 line Size why f h in
+      subst (λ (w : DumpWhy). Faults b line w) same.1 (subst (λ (n : ℕ). Faults b n Size) same.0 g);
+}
+
+same_text : (a b : List ℕ) → a ≡ b → HaveOneVerdict a b
+same_text a b e = record {
+  accepted = λ n h. subst (λ (t : List ℕ). Accepts t n) e h;
+  refused = λ line why h. subst (λ (t : List ℕ). Faults t line why) e h;
+}
+
+pub cut : (text : List ℕ) → HaveOneVerdict (take (most_bytes + 1) text) text
+cut text = elim (cases_lt most_bytes (length text)) [
+  | inl long ↦
+      let kept : length (take (most_bytes + 1) text) ≡ most_bytes + 1 = length-take-le (most_bytes + 1) text (omega (arith, long)) in
+      too_long_cut (take (most_bytes + 1) text) text (too_long (take (most_bytes + 1) text) (omega (arith, kept))) (too_long text long)
+  | inr short ↦ same_text (take (most_bytes + 1) text) text (take_all (most_bytes + 1) text (omega (arith, short)))
+]

@@ -1,5 +1,5 @@
 -- The table of causes: for which a line is refused, by the lines of the whole text and by those before it.
-use Rattle.std.specs.Prelude.{ℕ, ◌+◌, ◌==◌, ◌&&◌, ◌||◌, Bool, true, false, if◌then◌else◌, not, nat_le, List, Option, Some, None}
+use Rattle.std.specs.Prelude.{ℕ, ◌+◌, ◌==◌, ◌&&◌, ◌||◌, Bool, true, false, if◌then◌else◌, not, nat_le, List, Option, Some, None, codes}
 use Rattle.gh_dump.specs.Names.{same_name}
 use Rattle.gh_dump.specs.Listing.{bytes_listed, field_of, is_global_to, is_listed, is_object, is_total, last_field, last_global, objects_listed, rank_of}
 use Rattle.gh_dump.specs.Vocabulary.{DumpWhy, Field, Global, Item, list_any, Name, ObjectByGlobal, ObjectByParent}
@@ -66,3 +66,14 @@ cause_of whole before line =
     (if is_unknown_fault whole line then Some why.Unknown else
     (if is_parent_fault whole line then Some why.Parent else
     (if is_total_fault whole line then Some why.Total else None))))
+
+-- ---- what is told of a cause
+
+-- the cause in one word
+abbrev pub cause_word : DumpWhy → List ℕ
+cause_word why.Size = codes "size"
+cause_word why.Word = codes "word"
+cause_word why.Twice = codes "twice"
+cause_word why.Unknown = codes "unknown"
+cause_word why.Parent = codes "parent"
+cause_word why.Total = codes "total"

@@ -43,6 +43,11 @@ pub record Faults (text : List ℕ) (line : ℕ) (why : DumpWhy) : Type 0 where
   pub cause : cause_at text line ≡ Some why
   pub first : (before : ℕ) → before < line → cause_at text before ≡ None
 
+-- whatever is accepted or refused of the one is so of the other
+pub record HaveOneVerdict (a b : List ℕ) : Type 0 where
+  pub accepted : (n : ℕ) → Accepts a n → Accepts b n
+  pub refused : (line : ℕ) (why : DumpWhy) → Faults a line why → Faults b line why
+
 -- ---- what the code answered; memory may run out at any time
 
 -- the text was accepted with so many objects

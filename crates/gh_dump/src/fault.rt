@@ -1,6 +1,7 @@
 //! Why a text is no certificate.
 
-ghost use Rattle.std.specs.Prelude.{◌≡◌};
+ghost use Rattle.std.specs.Prelude.{◌≡◌, ◌≤◌, length};
+ghost use Rattle.gh_dump.specs.Causes.{cause_word};
 ghost use Rattle.gh_dump.specs.declared.fault.VerifyError.TheVariants.{NoMemory};
 
 use std::alloc::AllocError;
@@ -21,6 +22,23 @@ pub enum DumpWhy {
     Parent,
     /// The numbers aren't those of what is listed.
     Total,
+}
+
+impl DumpWhy {
+    /// The cause in one word: `size`, `word`, `twice`, `unknown`, `parent` or `total`.
+    pub fn word(&self) -> &'static [u8]
+        ensures word { result.now ≡ cause_word self.now }
+        ensures short { length result.now ≤ 7 }
+    {
+        match self {
+            DumpWhy::Size => b"size",
+            DumpWhy::Word => b"word",
+            DumpWhy::Twice => b"twice",
+            DumpWhy::Unknown => b"unknown",
+            DumpWhy::Parent => b"parent",
+            DumpWhy::Total => b"total",
+        }
+    }
 }
 
 /// The first line with a cause, from 1 (0: no line), and its first cause.

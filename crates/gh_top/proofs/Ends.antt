@@ -1,7 +1,7 @@
 -- How a call ends, by what it found.
 use Rattle.std.proofs.Common.{◌≡◌, ℕ, Bool, false, ◌⊎◌, ◌++◌, ◌*◌, ◌/◌, List, Some, refl, sym, ap, ap₂, subst, ◌∙◌, arith}
 use Rattle.std.proofs.lemmas.List.{append-nil}
-use Rattle.gh_top.proofs.Vocabulary.{AreRefused, BadScript, BadWords, ComesTo, command_line, concat, Ends, Found, FoundIsWritten, Gen, Generated, IsCutOff, IsForThreads, IsFound, IsRan, IsReplayed, IsSilent, IsUnfinished, Line, live_line, Matches, MatchesLine, NoMemory, NotBoth, NoThread, Outcome, outcome_lines, OutOfTurns, Program, Ran, ReadFault, ReadsScript, Refused, Replay, replay_text, Run, said_of, Says, Soak, Soaked, Spells, statements_line, Status, status_of, Streams, TellsInFull, Text}
+use Rattle.gh_top.proofs.Vocabulary.{Accepts, Appends, AreRefused, BadDump, BadScript, BadWords, CertifiesReach, ComesTo, command_line, concat, DumpWhy, Ends, Faults, Found, FoundIsWritten, Gen, Generated, IsCutOff, IsForThreads, IsFound, IsOfAll, IsReplayed, IsSilent, IsUnfinished, IsVerify, items_of, Line, live_line, Matches, MatchesLine, NoMemory, NotBoth, NoThread, Outcome, outcome_lines, OutOfTurns, Program, Ran, reachable_line, ReadFault, ReadsScript, ReadsText, Refused, Replay, replay_text, Run, said_of, Says, Soak, Soaked, Spells, statements_line, Status, status_of, Streams, TellsInFull, Text, Verified, Verify}
 use Rattle.gh_replay.specs.Plan.{Plan}
 use Rattle.gh_script.specs.declared.fault.Why.{Why}
 
@@ -31,6 +31,11 @@ comes (Soak seed size) text (Soaked n objects bytes) m tells =
 comes (Soak seed size) text NoThread m tells = absurd tells
 comes (Soak seed size) text NoMemory m tells = absurd tells
 comes (Soak seed size) text _ m tells = absurd m
+comes Verify text (Verified n) m tells = (n, m, refl)
+comes Verify text (BadDump fault) m tells = (fault.line, fault.why, m, refl)
+comes Verify text ReadFault m tells = absurd tells
+comes Verify text NoMemory m tells = absurd tells
+comes Verify text _ m tells = absurd m
 
 pub says : (words : List Text) (text : List ℕ) (f : Found) → Matches words text f → TellsInFull (status_of f) → Says words text (status_of f) (said_of f)
 says words text f m tells = grind (arith, comes)
@@ -84,6 +89,8 @@ module _ (one_script : (text : List ℕ) (p q : Program) → Spells text p → S
   replayed-tells text plan budget check p outcome (Ran q report) m spelled r e = absurd cc
   replayed-tells text plan budget check p outcome (Generated script) m spelled r e = absurd m
   replayed-tells text plan budget check p outcome (Soaked n objects bytes) m spelled r e = absurd m
+  replayed-tells text plan budget check p outcome (Verified n) m spelled r e = absurd m
+  replayed-tells text plan budget check p outcome (BadDump fault) m spelled r e = absurd m
   replayed-tells text plan budget check p outcome ReadFault m spelled r e = absurd cc
   replayed-tells text plan budget check p outcome NoThread m spelled r e = absurd m
   replayed-tells text plan budget check p outcome NoMemory m spelled r e = absurd cc
@@ -97,9 +104,36 @@ module _ (one_script : (text : List ℕ) (p q : Program) → Spells text p → S
   unfinished-tells text plan budget check p (OutOfTurns n) m spelled u e = absurd cc
   unfinished-tells text plan budget check p (Generated script) m spelled u e = absurd m
   unfinished-tells text plan budget check p (Soaked n objects bytes) m spelled u e = absurd m
+  unfinished-tells text plan budget check p (Verified n) m spelled u e = absurd m
+  unfinished-tells text plan budget check p (BadDump fault) m spelled u e = absurd m
   unfinished-tells text plan budget check p ReadFault m spelled u e = absurd cc
   unfinished-tells text plan budget check p NoThread m spelled u e = absurd m
   unfinished-tells text plan budget check p NoMemory m spelled u e = absurd cc
+
+-- ---- a dump
+
+module _ (dump_not_both : (text : List ℕ) (n line : ℕ) (why : DumpWhy) → Accepts text n → Faults text line why → ⊥) where
+  -- a dump of which no line has a cause is told
+  accepted-ends : (text : List ℕ) (n : ℕ) (f : Found) → MatchesLine Verify text f → (f ≡ ReadFault → ⊥) → Accepts text n → (status_of f ≡ Status.Ok) ⊎ (status_of f ≡ Status.NoMemory)
+  accepted-ends text n f m read accepted = grind arith
+
+  -- and one with a line that has one is not
+  faulted-ends : (text : List ℕ) (line : ℕ) (why : DumpWhy) (f : Found) → MatchesLine Verify text f → (f ≡ ReadFault → ⊥) → Faults text line why → (status_of f ≡ Status.BadDump) ⊎ (status_of f ≡ Status.NoMemory)
+  faulted-ends text line why f m read faulted = grind arith
+
+-- what is told of a dump
+counted : (text : List ℕ) (f : Found) → MatchesLine Verify text f → status_of f ≡ Status.Ok → (n : ℕ) × Accepts text n × (said_of f ≡ reachable_line n)
+counted text (Verified n) m e = (n, m, refl)
+counted text BadWords m e = absurd m
+counted text (BadScript fault) m e = absurd m
+counted text (Ran p report) m e = absurd m
+counted text (OutOfTurns n) m e = absurd m
+counted text (Generated script) m e = absurd m
+counted text (Soaked n objects bytes) m e = absurd m
+counted text (BadDump fault) m e = absurd cc
+counted text ReadFault m e = absurd cc
+counted text NoThread m e = absurd m
+counted text NoMemory m e = absurd cc
 
 -- ---- words that read no script
 
@@ -109,8 +143,8 @@ generated-ends text seed size f m = grind arith
 refused-words : (words : List Text) (text : List ℕ) (f : Found) → Matches words text f → AreRefused words → (status_of f ≡ Status.BadWords) ⊎ (status_of f ≡ Status.NoMemory)
 refused-words words text f m refused = grind arith
 
--- what is told of words that read a script was run
-run-if : (words : List Text) (text : List ℕ) (f : Found) → Matches words text f → ReadsScript words → status_of f ≡ Status.Ok → IsRan f
+-- what is told of words that read a text is of all of it
+run-if : (words : List Text) (text : List ℕ) (f : Found) → Matches words text f → ReadsText words → status_of f ≡ Status.Ok → IsOfAll f
 run-if words text f m reads e = grind arith
 
 -- ---- what a status says of what was found
@@ -125,6 +159,8 @@ refused-if words text (Ran p report) m e = absurd cc
 refused-if words text (OutOfTurns n) m e = absurd cc
 refused-if words text (Generated script) m e = absurd cc
 refused-if words text (Soaked n objects bytes) m e = absurd cc
+refused-if words text (Verified n) m e = absurd cc
+refused-if words text (BadDump fault) m e = absurd cc
 refused-if words text ReadFault m e = absurd cc
 refused-if words text NoThread m e = absurd cc
 refused-if words text NoMemory m e = absurd cc
@@ -137,6 +173,8 @@ read-if (Ran p report) e = absurd cc
 read-if (OutOfTurns n) e = absurd cc
 read-if (Generated script) e = absurd cc
 read-if (Soaked n objects bytes) e = absurd cc
+read-if (Verified n) e = absurd cc
+read-if (BadDump fault) e = absurd cc
 read-if NoThread e = absurd cc
 read-if NoMemory e = absurd cc
 
@@ -148,6 +186,8 @@ thread-if (Ran p report) e = absurd cc
 thread-if (OutOfTurns n) e = absurd cc
 thread-if (Generated script) e = absurd cc
 thread-if (Soaked n objects bytes) e = absurd cc
+thread-if (Verified n) e = absurd cc
+thread-if (BadDump fault) e = absurd cc
 thread-if ReadFault e = absurd cc
 thread-if NoMemory e = absurd cc
 
@@ -162,6 +202,8 @@ silent-memory (Ran p report) e = absurd cc
 silent-memory (OutOfTurns n) e = absurd cc
 silent-memory (Generated script) e = absurd cc
 silent-memory (Soaked n objects bytes) e = absurd cc
+silent-memory (Verified n) e = absurd cc
+silent-memory (BadDump fault) e = absurd cc
 silent-memory ReadFault e = tt
 silent-memory NoThread e = tt
 
@@ -176,7 +218,13 @@ NeverBoth = (text : List ℕ) (p : Program) (line : ℕ) (why : Why) → Spells 
 abbrev pub OneScript : Type 0
 OneScript = (text : List ℕ) (p q : Program) → Spells text p → Spells text q → p ≡ q
 
-module _ (not_both : NeverBoth) (one_script : OneScript) (never : NotBoth) (words : List Text) (before after : Streams) (f : Found) (status : Status)
+abbrev pub NoDumpIsBoth : Type 0
+NoDumpIsBoth = (text : List ℕ) (n line : ℕ) (why : DumpWhy) → Accepts text n → Faults text line why → ⊥
+
+abbrev pub DumpsCertify : Type 0
+DumpsCertify = (text : List ℕ) (n : ℕ) → Accepts text n → CertifiesReach (items_of text) n
+
+module _ (not_both : NeverBoth) (one_script : OneScript) (never : NotBoth) (dump_not_both : NoDumpIsBoth) (certify : DumpsCertify) (words : List Text) (before after : Streams) (f : Found) (status : Status)
     (found : IsFound (Matches words) before.left after.left before.read_faults after.read_faults f) where
   pub told-ends : FoundIsWritten f before.taken after.taken before.write_faults after.write_faults status → Ends words before after status
   told-ends t = subst (Ends words before after) (sym t.so) (record {
@@ -192,6 +240,11 @@ module _ (not_both : NeverBoth) (one_script : OneScript) (never : NotBoth) (word
         replayed-tells one_script never text plan budget check p outcome f (for_line words text (Replay plan budget check) f replay (found.told text left)) spelled replayed;
     out_of_turns_exactly = λ text plan budget check p left replay spelled unfinished.
         unfinished-tells one_script never text plan budget check p f (for_line words text (Replay plan budget check) f replay (found.told text left)) spelled unfinished;
+    verify_complete = λ text n left is accepted read wrote. accepted-ends dump_not_both text n f (for_line words text Verify f is (found.told text left)) (λ e. read (found.fault e)) accepted;
+    bad_dump_exactly = λ text line why left is faulted read wrote. faulted-ends dump_not_both text line why f (for_line words text Verify f is (found.told text left)) (λ e. read (found.fault e)) faulted;
+    verified = λ text left is ok.
+        let its = counted text f (for_line words text Verify f is (found.told text left)) ok in
+        (its.0, certify text its.0 its.1, subst (λ (said : List ℕ). Appends before.taken after.taken said) its.2 t.whole);
     generated = λ seed size gen wrote. generated-ends found.explained.0 seed size f (for_line words found.explained.0 (Gen seed size) f gen found.explained.1);
     read_fault = λ e.
         let is = read-if f e in
@@ -221,6 +274,9 @@ module _ (not_both : NeverBoth) (one_script : OneScript) (never : NotBoth) (word
     complete = λ text plan budget check p left replay spelled read wrote. absurd (wrote t.failed);
     ok_exactly = λ text plan budget check p outcome left replay spelled replayed e. absurd cc;
     out_of_turns_exactly = λ text plan budget check p left replay spelled unfinished e. absurd cc;
+    verify_complete = λ text n left is accepted read wrote. absurd (wrote t.failed);
+    bad_dump_exactly = λ text line why left is faulted read wrote. absurd (wrote t.failed);
+    verified = λ text left is e. absurd cc;
     generated = λ seed size gen wrote. absurd (wrote t.failed);
     read_fault = λ e. absurd cc;
     write_fault = λ e. t.failed;

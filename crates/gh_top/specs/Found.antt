@@ -1,8 +1,8 @@
 -- What a call has found before it writes anything.
 use Rattle.std.specs.Prelude.{◌≡◌, ℕ, ◌*◌, ◌/◌, ◌<◌, ◌≤◌, false, List, [], ◌++◌, Option, Some, Result, Ok, Err, IsOk}
-use Rattle.gh_top.specs.Vocabulary.{Appends, AreLiveThen, command_line, Gen, generated_program, generated_text, is_checked, IsReplayed, IsReportOf, IsRunByThreads, IsUnfinished, Line, live_line, Outcome, Program, refusal_line, Refused, Replay, replay_text, Rose, Run, Soak, Spells, statements_line, Status, TookPart, turns_line, words_refused_line}
+use Rattle.gh_top.specs.Vocabulary.{Accepts, Appends, AreLiveThen, bad_text_line, cause_word, command_line, Faults, Gen, generated_program, generated_text, is_checked, IsReplayed, IsReportOf, IsRunByThreads, IsUnfinished, Line, live_line, Outcome, Program, reachable_line, refusal_line, Refused, Replay, replay_text, Rose, Run, Soak, Spells, statements_line, Status, TookPart, turns_line, Verify, words_refused_line}
 use Rattle.gh_top.specs.declared.found.Found.{Found}
-use Rattle.gh_top.specs.declared.found.Found.TheVariants.{BadWords, BadScript, Ran, OutOfTurns, Generated, Soaked, ReadFault, NoThread, NoMemory}
+use Rattle.gh_top.specs.declared.found.Found.TheVariants.{BadWords, BadScript, Ran, OutOfTurns, Generated, Soaked, Verified, BadDump, ReadFault, NoThread, NoMemory}
 use Rattle.gh_top.specs.Outcome.{AreRefused}
 
 -- What was found is so for a line and the text: a script that was run is the one that the text spells, run as the line says, and a text that was refused spells none.
@@ -19,6 +19,9 @@ MatchesLine (Gen seed size) text (Generated script) = script.items ≡ generated
 MatchesLine (Soak seed size) text (Soaked n objects bytes) = (n ≡ 4 * (size / 4)) × (outcome : Outcome) × IsRunByThreads (generated_program seed size) outcome × AreLiveThen (generated_program seed size) outcome.objects outcome.bytes
     × (objects ≡ outcome.objects) × (bytes ≡ outcome.bytes)
 MatchesLine (Soak seed size) text NoThread = Unit {0}
+MatchesLine Verify text (Verified n) = Accepts text n
+MatchesLine Verify text (BadDump f) = Faults text f.line f.why
+MatchesLine Verify text ReadFault = Unit {0}
 MatchesLine line text NoMemory = Unit {0}
 MatchesLine line text found = ⊥
 
@@ -36,11 +39,12 @@ IsScriptOf text (Err ReadFault) = Unit {0}
 IsScriptOf text (Err NoMemory) = Unit {0}
 IsScriptOf text (Err found) = ⊥
 
--- the script was run, as far as its turns went
-abbrev pub IsRan : Found → Type 0
-IsRan (Ran p report) = Unit {0}
-IsRan (OutOfTurns n) = Unit {0}
-IsRan _ = ⊥
+-- it was found of a text that was read to its end: the script was run, as far as its turns went, or the dump has no line with a cause
+abbrev pub IsOfAll : Found → Type 0
+IsOfAll (Ran p report) = Unit {0}
+IsOfAll (OutOfTurns n) = Unit {0}
+IsOfAll (Verified n) = Unit {0}
+IsOfAll _ = ⊥
 
 -- what is told is of the script that was run
 abbrev pub IsTellable : Found → Type 0
@@ -62,6 +66,8 @@ said_of (Ran p report) = replay_text p report.outcome (is_checked report)
 said_of (OutOfTurns n) = turns_line n
 said_of (Generated script) = script.items
 said_of (Soaked n objects bytes) = statements_line n ++ live_line objects bytes
+said_of (Verified n) = reachable_line n
+said_of (BadDump f) = bad_text_line f.line (cause_word f.why)
 said_of _ = []
 
 -- how the call ends once that is written
@@ -72,6 +78,8 @@ status_of (Ran p report) = Status.Ok
 status_of (OutOfTurns n) = Status.OutOfTurns
 status_of (Generated script) = Status.Ok
 status_of (Soaked n objects bytes) = Status.Ok
+status_of (Verified n) = Status.Ok
+status_of (BadDump f) = Status.BadDump
 status_of ReadFault = Status.ReadFault
 status_of NoThread = Status.NoThread
 status_of NoMemory = Status.NoMemory
@@ -82,7 +90,7 @@ status_of NoMemory = Status.NoMemory
 pub record IsFound (matches : List ℕ → Found → Type 0) (left left_now : Option (List ℕ)) (faults faults_now : ℕ) (found : Found) : Type 0 where
   pub told : (text : List ℕ) → left ≡ Some text → matches text found
   pub explained : (text : List ℕ) × matches text found
-  pub read : (text : List ℕ) → left ≡ Some text → IsRan found → left_now ≡ Some []
+  pub read : (text : List ℕ) → left ≡ Some text → IsOfAll found → left_now ≡ Some []
   pub fault : found ≡ ReadFault → Rose faults faults_now
   pub fault_exactly : faults < faults_now → found ≡ ReadFault
   pub never_falls : faults ≤ faults_now

@@ -1,10 +1,10 @@
 -- What the program says: what it writes and how it ends, for the words that it is called with and the text that it reads.
 use Rattle.std.specs.Prelude.{◌≡◌, ◌⊎◌, ℕ, ◌*◌, ◌/◌, ◌<◌, ◌≤◌, Bool, List, [], ◌++◌, Option, Some, None}
 use Rattle.std.specs.List.{concat}
-use Rattle.gh_top.specs.Vocabulary.{Appends, AreLiveThen, command_line, Gen, generated_program, generated_text, IsReplayed, IsRunByThreads, IsUnfinished, Line, live_line, Outcome, outcome_lines, Program, refusal_line, Refused, Replay, replay_text, Rose, Run, Soak, Spells, statements_line, Status, TookPart, turns_line, words_refused_line}
+use Rattle.gh_top.specs.Vocabulary.{Accepts, Appends, AreLiveThen, bad_text_line, cause_word, CertifiesReach, command_line, DumpWhy, Faults, Gen, generated_program, generated_text, IsReplayed, IsRunByThreads, IsUnfinished, items_of, Line, live_line, Outcome, outcome_lines, Program, reachable_line, refusal_line, Refused, Replay, replay_text, Rose, Run, Soak, Spells, statements_line, Status, TookPart, turns_line, Verify, words_refused_line}
 use Rattle.gh_replay.specs.Plan.{Plan}
 use Rattle.gh_script.specs.declared.fault.Why.{Why}
-use Rattle.gh_top.specs.declared.status.Status.TheVariants.{Ok, BadWords, BadScript, ReadFault, WriteFault, NoMemory, NoThread, OutOfTurns}
+use Rattle.gh_top.specs.declared.status.Status.TheVariants.{Ok, BadWords, BadScript, ReadFault, WriteFault, NoMemory, NoThread, OutOfTurns, BadDump}
 
 -- ---- the words
 
@@ -24,6 +24,10 @@ IsGen words seed size = command_line words ≡ Some (Gen seed size)
 abbrev pub IsSoak : List (List ℕ) → ℕ → ℕ → Type 0
 IsSoak words seed size = command_line words ≡ Some (Soak seed size)
 
+-- as a dump of a heap to be verified
+abbrev pub IsVerify : List (List ℕ) → Type 0
+IsVerify words = command_line words ≡ Some Verify
+
 -- the command does not take the words
 abbrev pub AreRefused : List (List ℕ) → Type 0
 AreRefused words = command_line words ≡ None
@@ -36,6 +40,10 @@ IsForThreads words = IsRun words ⊎ ((seed : ℕ) × (size : ℕ) × IsSoak wor
 abbrev pub ReadsScript : List (List ℕ) → Type 0
 ReadsScript words = IsRun words ⊎ ((plan : Plan) × (budget : ℕ) × (check : Bool) × IsReplay words plan budget check)
 
+-- as one of the three that read a text: a script, or a dump
+abbrev pub ReadsText : List (List ℕ) → Type 0
+ReadsText words = ReadsScript words ⊎ IsVerify words
+
 -- ---- what is said
 
 -- what a call may end with after it has written all that it has to say
@@ -44,11 +52,16 @@ TellsInFull Ok = Unit {0}
 TellsInFull BadWords = Unit {0}
 TellsInFull BadScript = Unit {0}
 TellsInFull OutOfTurns = Unit {0}
+TellsInFull BadDump = Unit {0}
 TellsInFull _ = ⊥
 
 -- the text is refused, and this is its line
 abbrev pub IsRefusal : List ℕ → List ℕ → Type 0
 IsRefusal text written = (line : ℕ) × (why : Why) × Refused text line why × (written ≡ refusal_line line why)
+
+-- a line of the text has a cause, and this is its line
+abbrev pub IsBadDump : List ℕ → List ℕ → Type 0
+IsBadDump text written = (line : ℕ) × (why : DumpWhy) × Faults text line why × (written ≡ bad_text_line line (cause_word why))
 
 -- what a line that is taken may come to of this text, and what there is to say then
 abbrev pub ComesTo : Line → List ℕ → Status → List ℕ → Type 0
@@ -60,6 +73,8 @@ ComesTo Run text BadScript written = IsRefusal text written
 ComesTo (Gen seed size) text Ok written = written ≡ generated_text seed size
 ComesTo (Soak seed size) text Ok written = (outcome : Outcome) × IsRunByThreads (generated_program seed size) outcome × AreLiveThen (generated_program seed size) outcome.objects outcome.bytes
     × (written ≡ statements_line (4 * (size / 4)) ++ live_line outcome.objects outcome.bytes)
+ComesTo Verify text Ok written = (n : ℕ) × Accepts text n × (written ≡ reachable_line n)
+ComesTo Verify text BadDump written = IsBadDump text written
 ComesTo line text status written = ⊥
 
 -- a call with these words and this text may end so, having this to say
@@ -100,7 +115,7 @@ pub record Ends (words : List (List ℕ)) (before after : Streams) (status : Sta
   pub said : (text : List ℕ) → before.left ≡ Some text → TellsInFull status → Said words text status before.taken after.taken
   -- Of a source that does not tell its bytes, the same is known for some text.
   pub explained : TellsInFull status → (text : List ℕ) × Said words text status before.taken after.taken
-  pub read_to_end : (text : List ℕ) → before.left ≡ Some text → ReadsScript words → status ≡ Ok → after.left ≡ Some []
+  pub read_to_end : (text : List ℕ) → before.left ≡ Some text → ReadsText words → status ≡ Ok → after.left ≡ Some []
   -- Each answer and its cause.
   pub bad_words : status ≡ BadWords → AreRefused words
   pub bad_words_exactly : AreRefused words → WritesWell before after → (status ≡ BadWords) ⊎ (status ≡ NoMemory)
@@ -113,6 +128,12 @@ pub record Ends (words : List (List ℕ)) (before after : Streams) (status : Sta
       → status ≡ OutOfTurns → ⊥
   pub out_of_turns_exactly : (text : List ℕ) (plan : Plan) (budget : ℕ) (check : Bool) (p : Program) → before.left ≡ Some text → IsReplay words plan budget check → Spells text p → IsUnfinished p plan budget
       → status ≡ Ok → ⊥
+  -- A dump of which no line has a cause is told, and one with a line that has one is refused for the first.
+  pub verify_complete : (text : List ℕ) (n : ℕ) → before.left ≡ Some text → IsVerify words → Accepts text n → ReadsWell before after → WritesWell before after → (status ≡ Ok) ⊎ (status ≡ NoMemory)
+  pub bad_dump_exactly : (text : List ℕ) (line : ℕ) (why : DumpWhy) → before.left ≡ Some text → IsVerify words → Faults text line why → ReadsWell before after → WritesWell before after
+      → (status ≡ BadDump) ⊎ (status ≡ NoMemory)
+  -- A dump that is told lists exactly the objects that its globals reach by its fields, each once, and `reachable n` says how many.
+  pub verified : (text : List ℕ) → before.left ≡ Some text → IsVerify words → status ≡ Ok → (n : ℕ) × CertifiesReach (items_of text) n × Appends before.taken after.taken (reachable_line n)
   -- A script that is wished for is written.
   pub generated : (seed size : ℕ) → IsGen words seed size → WritesWell before after → (status ≡ Ok) ⊎ (status ≡ NoMemory)
   pub read_fault : status ≡ ReadFault → ¬ AreRefused words × Rose before.read_faults after.read_faults × (after.taken ≡ before.taken)
@@ -139,3 +160,4 @@ code_of WriteFault = 5
 code_of NoMemory = 6
 code_of NoThread = 7
 code_of OutOfTurns = 8
+code_of BadDump = 9

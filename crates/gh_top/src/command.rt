@@ -6,13 +6,14 @@ ghost use Rattle.gh_io.specs.Counts.{Rose};
 ghost use Rattle.gh_script.specs.Program.{Program};
 ghost use Rattle.gh_script.specs.Grammar.{Spells};
 ghost use Rattle.gh_command.specs.CommandLine.{texts};
-ghost use Rattle.gh_top.specs.Outcome.{ComesTo, Ends, IsForThreads, IsRun, IsSoak, ReadsScript, streams};
+ghost use Rattle.gh_top.specs.Outcome.{ComesTo, Ends, IsForThreads, IsRun, IsSoak, ReadsText, streams};
 ghost use Rattle.gh_command.specs.declared.line.Line.TheVariants.{Soak};
 
 use crate::finding::find;
 use crate::saying::tell;
 use crate::status::Status;
 use crate::threads::find_by_threads;
+use gh_dump::{accepted_texts_certify, one_verdict};
 use gh_gate::{Gate, Spawner};
 use gh_io::{Sink, Source};
 use gh_replay::one_outcome;
@@ -38,9 +39,13 @@ use std::thread;
 /// `gen --seed n --size n` reads nothing, and writes the text of the script of this seed and this size (4 to 200,000), which
 /// has 4 · (size / 4) statements.
 ///
+/// `verify` reads a dump of a heap, and writes `reachable n` where no line of it has a cause: then its `n` objects are exactly those
+/// that its globals reach by its fields. Else it writes `line l: why`, the first line that has one and its first cause. It reads
+/// at most 268,435,457 bytes, which is one more than a dump may have.
+///
 /// A command line that is not taken, one whose list is none
-/// among them, a text that is no script and a run that is not over within its budget are told in one line. It
-/// reads at most 4,194,305 bytes, which is one more than a script may have. Nothing is written before the run
+/// among them, a text that is no script and a run that is not over within its budget are told in one line. Of a script it
+/// reads at most 4,194,305 bytes, which is one more than one may have. Nothing is written before the run
 /// has ended, and each line of a run is written as one piece, the rest of it again until it is taken.
 pub fn quiet<S: Source, K: Sink>(
     alloc: Global,
@@ -52,13 +57,15 @@ pub fn quiet<S: Source, K: Sink>(
     ensures ends { IfSome result (Ends (texts words.now)
         (streams (S.left src.old) (S.faults src.old) (K.taken out.old) (K.faults out.old))
         (streams (S.left src.new) (S.faults src.new) (K.taken out.new) (K.faults out.new))) }
-    // Words that ask for no script to be read, those that are refused among them, have nothing read.
-    ensures unread { ¬ ReadsScript (texts words.now) → src.new ≡ src.old }
+    // Words that ask for no text to be read, those that are refused among them, have nothing read.
+    ensures unread { ¬ ReadsText (texts words.now) → src.new ≡ src.old }
     ensures none { result ≡ None → IsForThreads (texts words.now) × (src.new ≡ src.old) × (out.new ≡ out.old) }
     ensures none_exactly { IsForThreads (texts words.now) → (result ≡ None) ⊎ (result ≡ Some Status.NoMemory) }
 {
     one_reading();
     one_outcome();
+    one_verdict();
+    accepted_texts_certify();
     let found = find(alloc, words, src)?;
     Some(tell(&found, out))
 }
@@ -69,7 +76,7 @@ pub fn quiet<S: Source, K: Sink>(
 /// same lines. `soak --seed n --size n` reads nothing, runs the script that `gen` writes by threads, and writes two lines: how
 /// many statements that has, and what is live at the end. Whoever stepped when, these are the same two. The actors are held
 /// by the gate between their steps. Nothing is written before all threads have ended, and where no threads can be had or
-/// memory runs out no actor makes a step. A call that runs threads may wait.
+/// memory runs out `sp` runs no jobs. A call that runs threads may wait.
 pub fn top<R: thread::Threads + Wait + Sync, S: Source, K: Sink, G: Gate + Sync, P: Spawner>(
     rt: &R,
     alloc: Global,
@@ -83,7 +90,7 @@ pub fn top<R: thread::Threads + Wait + Sync, S: Source, K: Sink, G: Gate + Sync,
     ensures ends { Ends (texts words.now)
         (streams (S.left src.old) (S.faults src.old) (K.taken out.old) (K.faults out.old))
         (streams (S.left src.new) (S.faults src.new) (K.taken out.new) (K.faults out.new)) result }
-    ensures unread { ¬ ReadsScript (texts words.now) → src.new ≡ src.old }
+    ensures unread { ¬ ReadsText (texts words.now) → src.new ≡ src.old }
     // A script that is read without a fault, and whose threads can be had, is run and told.
     ensures run_complete { (text : List ℕ) (p : Program) → S.left src.old ≡ Some text → IsRun (texts words.now) → Spells text p →
         ¬ Rose (S.faults src.old) (S.faults src.new) → ¬ Rose (K.faults out.old) (K.faults out.new) → ¬ Rose (P.faults sp.old) (P.faults sp.new) →
@@ -96,7 +103,7 @@ pub fn top<R: thread::Threads + Wait + Sync, S: Source, K: Sink, G: Gate + Sync,
         ComesTo (Soak seed size) text Status.Ok written → Appends (K.taken out.old) (K.taken out.new) written }
     // What is told of threads was run by them.
     ensures ran { IsForThreads (texts words.now) → result ≡ Status.Ok → Rose (P.ran sp.old) (P.ran sp.new) }
-    // Where the call ends otherwise, and no write failed, no job made a step: memory runs out before the first step alone.
+    // Where the call ends otherwise, and no write failed, the spawner ran no jobs.
     ensures none_ran { ¬ (result ≡ Status.Ok) → ¬ (result ≡ Status.WriteFault) → P.ran sp.new ≡ P.ran sp.old }
     // A spawner that refuses runs nothing.
     ensures refused { P.refuses sp.old → IsForThreads (texts words.now) → result ≡ Status.Ok → ⊥ }
@@ -109,6 +116,8 @@ pub fn top<R: thread::Threads + Wait + Sync, S: Source, K: Sink, G: Gate + Sync,
     }
     one_reading();
     one_outcome();
+    one_verdict();
+    accepted_texts_certify();
     what_is_live_is_one();
     let found = find_by_threads(rt, alloc, words, src, gate, sp);
     tell(&found, out)

@@ -1,9 +1,10 @@
 //! What a call finds before it writes anything: its words are looked at, its text is read or generated, and its
-//! script run.
+//! script run, or its dump verified.
 //!
 //! Nothing here writes, and nothing that writes (`saying.rt`) reads or takes memory. So what is written
 //! is settled before the first byte of it goes out.
 
+use gh_dump::DumpFault;
 use gh_replay::Report;
 use gh_script::{Script, ScriptFault};
 
@@ -26,6 +27,10 @@ pub enum Found {
         objects: u64,
         bytes: u64,
     },
+    /// No line of the dump has a cause. It lists so many objects.
+    Verified(u32),
+    /// A line of the dump has a cause.
+    BadDump(DumpFault),
     /// A read failed.
     ReadFault,
     /// No threads could be had, and no actor has made a step.

@@ -37,7 +37,8 @@ fn ending(found: &Found) -> Status
         Found::BadScript(_) => Status::BadScript,
         Found::Ran(_, _) => Status::Ok,
         Found::OutOfTurns(_) => Status::OutOfTurns,
-        Found::Generated(_) | Found::Soaked { .. } => Status::Ok,
+        Found::Generated(_) | Found::Soaked { .. } | Found::Verified(_) => Status::Ok,
+        Found::BadDump(_) => Status::BadDump,
         Found::ReadFault => Status::ReadFault,
         Found::NoThread => Status::NoThread,
         Found::NoMemory => Status::NoMemory,
@@ -77,6 +78,16 @@ fn say<K: Sink>(found: &Found, out: &mut K) -> Result<(), Failed>
             objects,
             bytes,
         } => say_soaked(out, *statements, *objects, *bytes),
+        Found::Verified(objects) => {
+            let mut line = LineBuf::new();
+            line.reachable(*objects);
+            write_all(out, line.bytes())
+        }
+        Found::BadDump(fault) => {
+            let mut line = LineBuf::new();
+            line.bad_text(fault.line, fault.why.word());
+            write_all(out, line.bytes())
+        }
         Found::ReadFault | Found::NoThread | Found::NoMemory => Ok(()),
     }
 }

@@ -9,7 +9,7 @@ ghost use Rattle.gh_script.specs.Grammar.{Spells};
 ghost use Rattle.gh_command.specs.declared.line.Line.TheVariants.{Run, Soak};
 ghost use Rattle.gh_top.specs.declared.status.Status.TheVariants.{Ok};
 ghost use Rattle.gh_command.specs.CommandLine.{texts};
-ghost use Rattle.gh_top.specs.Outcome.{IsForThreads, ReadsScript};
+ghost use Rattle.gh_top.specs.Outcome.{IsForThreads, ReadsText};
 ghost use Rattle.gh_top.specs.Found.{IsFound, IsTellable, Matches, MatchesLine, status_of};
 
 use crate::finding::read_script;
@@ -37,7 +37,7 @@ pub fn find_by_threads<R: thread::Threads + Wait + Sync, S: Source, G: Gate + Sy
 ) -> Found
     requires { IsForThreads (texts words.now) }
     ensures found { IsFound (Matches (texts words.now)) (S.left src.old) (S.left src.new) (S.faults src.old) (S.faults src.new) result }
-    ensures unread { ¬ ReadsScript (texts words.now) → src.new ≡ src.old }
+    ensures unread { ¬ ReadsText (texts words.now) → src.new ≡ src.old }
     ensures ran { status_of result ≡ Ok → Rose (P.ran sp.old) (P.ran sp.new) }
     ensures none_ran { ¬ (status_of result ≡ Ok) → P.ran sp.new ≡ P.ran sp.old }
     ensures refused { P.refuses sp.old → status_of result ≡ Ok → ⊥ }

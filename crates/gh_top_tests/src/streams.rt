@@ -16,6 +16,16 @@ const PLAIN: &[&str] = &["goheap", "replay"];
 
 const SHORT: &[&str] = &["goheap", "replay", "--budget", "1"];
 
+const VERIFY: &[&str] = &["goheap", "verify"];
+
+/// A dump of two objects that hold each other.
+const DUMP: &str =
+    "global 0 ref a.0\nobject a.0 bytes 16 rank 0 global 0\nfield 1 ref a.1\nobject a.1 bytes 16 rank 1 parent a.0 field 1\nfield 0 ref a.0\ntotal 2 bytes 32\n";
+
+/// The same two objects, which no global holds: each is the other's parent.
+const CIRCLE: &str =
+    "object a.0 bytes 16 rank 1 parent a.1 field 0\nfield 1 ref a.1\nobject a.1 bytes 16 rank 2 parent a.0 field 1\nfield 0 ref a.0\ntotal 2 bytes 32\n";
+
 /// The words, the reads and the writes that fail, counted from 1, and the room of the sink; the status, and what the sink has taken.
 type Row = (
     &'static [&'static str],
@@ -42,6 +52,53 @@ const ROWS: &[Row] = &[
     (&["goheap"], &[1], &[], 1000, 2, "words refused\n"),
     (&[], &[1], &[], 5, 5, "words"),
 ];
+
+/// The text, the reads and the writes that fail and the room of the sink, where the words ask for `verify`; the status, and what the
+/// sink has taken.
+type DumpRow = (
+    &'static str,
+    &'static [u64],
+    &'static [u64],
+    usize,
+    u8,
+    &'static str,
+);
+
+const DUMP_ROWS: &[DumpRow] = &[
+    (DUMP, &[], &[], 1000, 0, "reachable 2\n"),
+    (DUMP, &[1], &[], 1000, 4, ""),
+    (DUMP, &[2], &[], 1000, 4, ""),
+    (DUMP, &[], &[1], 1000, 5, ""),
+    (DUMP, &[], &[], 5, 5, "reach"),
+    (CIRCLE, &[], &[], 1000, 9, "line 1: parent\n"),
+    (CIRCLE, &[], &[1], 1000, 5, ""),
+    (CIRCLE, &[1], &[], 1000, 4, ""),
+    ("total 0 bytes 0\n", &[], &[], 1000, 0, "reachable 0\n"),
+    ("", &[], &[], 1000, 9, "line 0: total\n"),
+    ("\n", &[], &[], 1000, 9, "line 1: word\n"),
+    (
+        "global 0 ref a.0\ntotal 0 bytes 0\n",
+        &[],
+        &[],
+        1000,
+        9,
+        "line 1: unknown\n",
+    ),
+    ("total 1 bytes 0\n", &[], &[], 1000, 9, "line 1: total\n"),
+    (TEXT, &[], &[], 1000, 9, "line 1: word\n"),
+];
+
+#[test]
+fn each_dump_is_told(rt: HostRuntime) -> Result<(), Fail> {
+    for (text, reads, writes, room, code, taken) in DUMP_ROWS {
+        let mut src = MemSource::new(rt.alloc(), text.as_bytes(), reads)?;
+        let mut out = MemSink::new(rt.alloc(), *room, writes)?;
+        let status = quiet(rt.alloc(), VERIFY, &mut src, &mut out);
+        assert_eq!(rt; status.map(code_of), Some(*code), "{text}");
+        assert_eq!(rt; out.bytes(), taken.as_bytes(), "{text}");
+    }
+    Ok(())
+}
 
 fn code_of(status: Status) -> u8 {
     status.code()

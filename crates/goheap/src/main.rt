@@ -1,5 +1,6 @@
 //! `goheap replay` and `goheap run` read a script from standard input, run it, the one in turns and the other by threads, and
 //! write the lines of its answers to standard output; `goheap gen` writes a script, and `goheap soak` runs such a one by threads.
+//! `goheap verify` reads a dump of a heap, and writes whether it lists exactly what its globals reach.
 //!
 //! What a call says and how it ends is proved of [`gh_top::top`]. Here it gets the words of the
 //! command line, standard input and standard output, a gate that holds nobody, and threads. Nothing goes to standard error.

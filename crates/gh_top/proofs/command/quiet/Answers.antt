@@ -9,8 +9,8 @@ returns-clause-ends g c =
     let before = streams (g.S.Source.left c.args.src.now) (g.S.Source.faults c.args.src.now) (g.K.Sink.taken c.args.out.now) (g.K.Sink.faults c.args.out.now) in
     let after = streams (g.S.Source.left c.find.new.src) (g.S.Source.faults c.find.new.src) (g.K.Sink.taken c.tell.new.out) (g.K.Sink.faults c.tell.new.out) in
     elim c.tell.ensures [
-      | inl told ↦ told-ends c.one_reading.ensures.not_both c.one_reading.ensures.one_script c.one_outcome.ensures.not_both words before after c.in_ok-found.found c.tell.result c.in_ok-found.ensures.found told
-      | inr cut ↦ cut-ends c.one_reading.ensures.not_both c.one_reading.ensures.one_script c.one_outcome.ensures.not_both words before after c.in_ok-found.found c.tell.result c.in_ok-found.ensures.found cut
+      | inl told ↦ told-ends c.one_reading.ensures.not_both c.one_reading.ensures.one_script c.one_outcome.ensures.not_both c.one_verdict.ensures.not_both c.accepted_texts_certify.ensures words before after c.in_ok-found.found c.tell.result c.in_ok-found.ensures.found told
+      | inr cut ↦ cut-ends c.one_reading.ensures.not_both c.one_reading.ensures.one_script c.one_outcome.ensures.not_both c.one_verdict.ensures.not_both c.accepted_texts_certify.ensures words before after c.in_ok-found.found c.tell.result c.in_ok-found.ensures.found cut
     ]
 
 -- where memory ran out nothing is written, and so no write of it failed

@@ -13,8 +13,8 @@ returns-clause-ends g c =
     let after = streams (g.S.Source.left c.find_by_threads-found.new.src) (g.S.Source.faults c.find_by_threads-found.new.src) (g.K.Sink.taken c.tell.new.out) (g.K.Sink.faults c.tell.new.out) in
     let ends : Ends (texts c.args.words.now) before after c.tell.result =
     elim c.tell.ensures [
-      | inl told ↦ told-ends c.one_reading.ensures.not_both c.one_reading.ensures.one_script c.one_outcome.ensures.not_both words before after c.find_by_threads-found.result c.tell.result c.find_by_threads-found.ensures.found told
-      | inr cut ↦ cut-ends c.one_reading.ensures.not_both c.one_reading.ensures.one_script c.one_outcome.ensures.not_both words before after c.find_by_threads-found.result c.tell.result c.find_by_threads-found.ensures.found cut
+      | inl told ↦ told-ends c.one_reading.ensures.not_both c.one_reading.ensures.one_script c.one_outcome.ensures.not_both c.one_verdict.ensures.not_both c.accepted_texts_certify.ensures words before after c.find_by_threads-found.result c.tell.result c.find_by_threads-found.ensures.found told
+      | inr cut ↦ cut-ends c.one_reading.ensures.not_both c.one_reading.ensures.one_script c.one_outcome.ensures.not_both c.one_verdict.ensures.not_both c.accepted_texts_certify.ensures words before after c.find_by_threads-found.result c.tell.result c.find_by_threads-found.ensures.found cut
     ] in
     subst (λ out. Ends words (streams (g.S.Source.left c.args.src.now) (g.S.Source.faults c.args.src.now) (g.K.Sink.taken out) (g.K.Sink.faults out)) after c.tell.result) none.2
     (subst (λ src. Ends words (streams (g.S.Source.left src) (g.S.Source.faults src) (g.K.Sink.taken c.quiet.new.out) (g.K.Sink.faults c.quiet.new.out)) after c.tell.result) none.1 ends)
