@@ -21,3 +21,4 @@ pub mod Spelled
 pub mod GeneratedWords
 pub mod GeneratedForm
 pub mod Writing
+pub mod Asking

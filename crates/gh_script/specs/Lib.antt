@@ -10,4 +10,5 @@ pub mod Grammar
 pub mod Outcome
 pub mod Form
 pub mod Generated
+pub mod Made
 pub mod Vocabulary

@@ -29,9 +29,9 @@ use gh_base::limits;
 use gh_base::limits::{LEAST_PAGES, MOST_GLOBALS, MOST_PAGES, MOST_PROCS, MOST_WORKERS};
 
 /// The most types of a script.
-const MOST_TYPES: usize = 64;
+pub const MOST_TYPES: usize = 64;
 /// The most goroutines of a script.
-const MOST_GOROUTINES: usize = limits::MOST_GOROUTINES as usize;
+pub const MOST_GOROUTINES: usize = limits::MOST_GOROUTINES as usize;
 /// The most times that a body of `repeat` stands.
 const MOST_TIMES: u64 = limits::MOST_STATEMENTS as u64;
 /// The most `repeat`s that are open at once.
@@ -124,7 +124,8 @@ pub fn number_in(word: &[u8]) -> u64
     number(word).unwrap_or(0)
 }
 
-fn least(setting: Setting) -> u64
+/// The least number of a setting.
+pub fn least(setting: Setting) -> u64
     ensures { result ≡ least setting }
 {
     match setting {
@@ -134,7 +135,8 @@ fn least(setting: Setting) -> u64
     }
 }
 
-fn most(setting: Setting) -> u64
+/// The greatest number of a setting.
+pub fn most(setting: Setting) -> u64
     ensures { result ≡ most setting }
 {
     match setting {

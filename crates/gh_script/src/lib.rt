@@ -8,6 +8,7 @@
 //! where it is refused so.
 //! [`script_form`] says the same without the reading line by line: which lines a script has, and
 //! what they say (specs/Form.antt).
+//! [`Script::make`] makes a script without a text, for users of the heap as a library: their goroutines only count.
 //! The heap has no use of the text once it is parsed, so a [`Script`] keeps only what was said.
 #![tactic(auto)]
 
@@ -20,6 +21,7 @@ mod given;
 mod goroutine;
 mod key;
 mod line;
+mod made;
 mod reading;
 mod saying;
 mod script;
@@ -34,6 +36,7 @@ pub use generated::{
     generated_scripts_spell,
 };
 pub use line::{Sentence, behind, feed_index, next_word, stripped, words};
+pub use made::Wishes;
 pub use reading::{MOST_BYTES, one_reading, parse};
 pub use script::Script;
 pub use statement::{Settings, Stmt};
