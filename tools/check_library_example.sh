@@ -1,9 +1,10 @@
 #!/usr/bin/env bash
-# The example of docs/LIBRARY.md's section "A whole program" is what stands between the two marks of crates/goheap_example/src/main.rt, and what
-# the section says that it prints is that crate's `stdout`. README.md's section "The library" shows the function `play` of it.
+# The program in docs/LIBRARY.md's section "A whole program" is what stands between the two marks of crates/goheap_example/src/main.rt, and what
+# the section says that it prints is that crate's `stdout`; so it is with "Two threads, one global" and goheap_race. README.md's section "The
+# library" shows what the first does on a processor.
 set -u
 cd "$(dirname "$0")/.." || exit 1
-program=crates/goheap_example passed=0 failed=0
+example=crates/goheap_example passed=0 failed=0
 
 # The n-th block of a page's section, without its fences.
 block() {
@@ -11,16 +12,16 @@ block() {
     on && /^```/ { inside = !inside; if (inside) n++; next }
     on && inside && n == wanted' "$1"
 }
-# What stands between the marks, where each stands once and in this order.
+# What stands between the marks of a program, if each stands once and in this order.
 marked() {
   awk '$0 == "// docs/LIBRARY.md shows this, up to here." { ends++; on = 0 }
     on
     $0 == "// docs/LIBRARY.md shows this, from here on." { begins++; on = 1 }
-    END { exit !(begins == 1 && ends == 1 && !on) }' "$program/src/main.rt"
+    END { exit !(begins == 1 && ends == 1 && !on) }' "$1/src/main.rt"
 }
 
-# The function of this name.
-function_of() { awk -v begin="fn $1<" 'index($0, begin) == 1 { on = 1 } on; on && /^}/ { exit }' "$program/src/main.rt"; }
+# What the example does on a processor.
+played() { awk '/^impl Play for / { on = 1 } on; on && /^}/ { exit }' "$example/src/main.rt"; }
 
 # What a page has is what stands in the crate, and is not nothing.
 compare() {
@@ -34,13 +35,18 @@ compare() {
   fi
 }
 
-if stands=$(marked); then
-  compare 'the example in docs/LIBRARY.md' "$(block docs/LIBRARY.md 'A whole program' 1)" "$program/src/main.rt" "$stands"
-else
-  echo "check_library_example: $program/src/main.rt does not have its two marks, each once"
-  failed=$((failed + 1))
-fi
-compare 'what it prints by docs/LIBRARY.md' "$(block docs/LIBRARY.md 'A whole program' 2)" "$program/stdout" "$(cat "$program/stdout")"
-compare 'the function play in README.md' "$(block README.md 'The library' 1)" "$program/src/main.rt" "$(function_of play)"
+while IFS='|' read -r program section; do
+  if stands=$(marked "$program"); then
+    compare "the program in docs/LIBRARY.md, $section," "$(block docs/LIBRARY.md "$section" 1)" "$program/src/main.rt" "$stands"
+  else
+    echo "check_library_example: $program/src/main.rt does not have its two marks, each once"
+    failed=$((failed + 1))
+  fi
+  compare "what it prints by docs/LIBRARY.md, $section," "$(block docs/LIBRARY.md "$section" 2)" "$program/stdout" "$(cat "$program/stdout")"
+done <<END
+$example|A whole program
+crates/goheap_race|Two threads, one global
+END
+compare 'what README.md shows' "$(block README.md 'The library' 1)" "$example/src/main.rt" "$(played)"
 echo "library example: $passed passed, $failed failed"
 [ "$failed" -eq 0 ]

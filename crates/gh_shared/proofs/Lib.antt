@@ -12,4 +12,5 @@ pub mod Loading
 pub mod Midway
 pub mod Ready
 pub mod Rooms
+pub mod Runners
 pub mod Vocabulary

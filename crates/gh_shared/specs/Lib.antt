@@ -5,5 +5,6 @@ pub mod Credit
 pub mod Faults
 pub mod Handles
 pub mod LastWrites
+pub mod Runners
 pub mod Shown
 pub mod Vocabulary

@@ -12,7 +12,7 @@
 //!
 //! A load or a store ends within a few steps, whatever others do, and takes no runtime. A new object, a collection, a poll and
 //! the leave may wait for others, and so they take one. Workers and the coordinator run until they are done; the coordinator
-//! is only once all processors have left.
+//! is only once all processors have left. [`run_all`] runs all of them, each in a thread of its own, and gathers their handles.
 #![tactic(auto)]
 
 mod calls;
@@ -24,10 +24,12 @@ mod laws;
 mod load;
 mod opening;
 mod others;
+mod running;
 mod shows;
 
 pub use closing::Closed;
-pub use fault::OpenFault;
+pub use fault::{OpenFault, RunFault};
 pub use handle::Handle;
 pub use heap::Heap;
 pub use laws::{answers_are_evers, loads_see_stores, reads_see_writes};
+pub use running::{Play, run_all};

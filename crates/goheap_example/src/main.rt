@@ -1,56 +1,60 @@
 //! The heap as a library: a program that opens one, runs its actors in threads, and closes it.
 //!
-//! docs/LIBRARY.md shows what stands between the two marks here, and `tools/check_library_example.sh` compares them. How the actors are run in
-//! threads is in `actor.rt`.
+//! docs/LIBRARY.md shows what stands between the two marks here, and `tools/check_library_example.sh` compares them.
 #![tactic(auto)]
 
 // docs/LIBRARY.md shows this, from here on.
-ghost use Rattle.gh_shared.specs.Handles.{IsHandleOf, IsHeapOf};
-
-mod actor;
-
-use crate::actor::run_all;
 use anyhow::Result;
 use gh_base::Answer;
-use gh_script::{Script, parse};
-use gh_shared::{Handle, Heap};
+use gh_script::{Script, Settings, Wishes};
+use gh_shared::{Handle, Heap, Play, run_all};
 use std::sync::Wait;
 
-// The actors, the heap, the type of its objects, and one goroutine, which has a `new` and a `gc` to ask for.
-const SCRIPT: &str =
-    "procs 1\nworkers 1\narena 16\nglobals 1\ntype node pn\ngo a\nnew r0 node\ngc\nend\n";
+// The actors, and the heap.
+const SETTINGS: Settings = Settings {
+    procs: 1,
+    workers: 1,
+    arena: 16,
+    globals: 1,
+    gogc: 100,
+    minheap: 32768,
+};
 
-// What goroutine 0 does on its processor. It answers what it has loaded.
-fn play<'s, R: Wait>(rt: &R, heap: &Heap, script: &Script, h: &mut Handle<'s>) -> Option<Answer>
-    requires of { IsHandleOf heap.now h.old }
-    requires script { IsHeapOf script.now heap.now }
-    ensures { IsHandleOf heap.now h.new }
-{
-    if !h.is_processor() || h.ended() || !h.runs(0) || h.left(0) < 2 {
-        return None;
+// What runs a processor, and what goroutine 0 has loaded there.
+#[derive(Clone, Copy)]
+struct Player {
+    loaded: Option<Answer>,
+}
+
+impl Play for Player {
+    fn play<'s, R: Wait>(&mut self, rt: &R, heap: &Heap, script: &Script, h: &mut Handle<'s>) {
+        if !h.runs(0) || h.left(0) < 2 || script.shapes().count() == 0 {
+            return;
+        }
+        heap.new_object(rt, h, 0, 0, 0); // register 0 names a new object of type 0
+        heap.int(h, 0, 1, 7); // register 1 takes 7
+        heap.poll(rt, h); // stops if the world is stopped; after it a store has room
+        heap.store(h, 0, 0, 1, 1); // field 1 of the object in register 0 takes register 1
+        self.loaded = Some(heap.load(h, 0, 2, 0, 1)); // register 2 takes that field
+        heap.collect(rt, h, 0); // a cycle, which keeps the object, since register 0 names it
+        heap.finish(h, 0); // the goroutine ends, and its registers with it
+        if h.runs_none() {
+            heap.leave(rt, h); // the processor leaves; after the last one a last cycle begins
+        }
     }
-    if script.shapes().count() == 0 {
-        return None;
-    }
-    heap.new_object(rt, h, 0, 0, 0); // register 0 names a new object of type 0
-    heap.int(h, 0, 1, 7); // register 1 takes 7
-    heap.poll(rt, h); // stops where the world is stopped; behind it a store has room
-    heap.store(h, 0, 0, 1, 1); // field 1 of the object in register 0 takes register 1
-    let loaded = heap.load(h, 0, 2, 0, 1); // register 2 takes that field
-    heap.collect(rt, h, 0); // a cycle, which keeps the object, since register 0 names it
-    heap.finish(h, 0); // the goroutine ends, and its registers with it
-    if h.runs_none() {
-        heap.leave(rt, h); // the processor leaves; behind the last one a last cycle begins
-    }
-    Some(loaded)
 }
 
 fn main(rt: HostRuntime) -> Result<()> {
-    let script = parse(rt.alloc(), SCRIPT.as_bytes())?;
+    // one type, a pointer and a number; and one goroutine, which may ask for one object and one cycle
+    let goroutine = Wishes { news: 1, gcs: 1 };
+    let script = Script::make(rt.alloc(), SETTINGS, &["pn"], &[goroutine])?;
     let (heap, handles) = Heap::open(rt.alloc(), &script)?;
-    let (all, loaded) = run_all(&rt, rt.alloc(), &heap, &script, handles)?;
+    let player = Player { loaded: None };
+    let (all, players) = run_all(&rt, rt.alloc(), &heap, &script, handles, player)?;
     let closed = heap.close(all);
-    println!(rt; "loaded {loaded:?}")?;
+    if let Some(player) = players.first() {
+        println!(rt; "loaded {:?}", player.loaded)?;
+    }
     for cycle in closed.cycles() {
         println!(rt;
             "cycle {} marked {} freed {}",
