@@ -27,12 +27,17 @@ usage: goheap.sh replay [--seed n] [--list text] [--budget n] [--check] < file
          (docs/DUMP.md)
        goheap.sh example name
          runs examples/name.heap, with the words that its second line has for it
+       goheap.sh watch [the words of replay] < file > run.html
+         makes a page of the run that needs no network: its lanes, phases, stops and bytes over the turns, and the arena, the graph of
+         objects and the statements at each turn
+       goheap.sh cycles [the words of replay] < file
+         writes a line for each cycle: bytes, goal and trigger, turns in each phase, stops, words scanned, spans swept and credit
        goheap.sh steps [--pacing] [--list text] < file
          runs it too, and writes a line for each turn at which something happens that a list can wait for, and the arena at each cycle's end;
          with --pacing first, a line for each turn at which the heap's bytes, the trigger or the phase changes
        goheap.sh draw [--list text] < file > run.svg
          draws these turns, for papers: its rows are events and not time. It has the phases of the collector, and beneath them the pages,
-         spans and slots at each cycle's end. A run of more than 2,000 events is refused
+         spans and slots at each cycle's end. A run of more than 2,000 events is for watch
        goheap.sh draw --pacing [--list text] < file > pacing.svg
          draws what paces the cycles of the run: the heap's bytes, the trigger and the goal over its turns
        goheap.sh prove
@@ -55,7 +60,7 @@ usage_of() {
 
 here_is_all=yes
 for part in crates crates.txt HANDLES tools/attend.sh tools/hints.sh tools/words.sh tools/sources.sh tools/build.sh tools/shows.sh \
-  tools/hint.awk tools/draw.awk tools/pacing.awk; do
+  tools/hint.awk tools/waits.awk tools/draw.awk tools/pacing.awk tools/cycles.awk tools/watch.awk tools/watch.html; do
   [ -e "$here/$part" ] || { here_is_all=no && break; }
 done
 if [ "$here_is_all" = no ]; then
@@ -193,6 +198,8 @@ case "${1-}" in
   verify) verify "${@:2}" ;;
   gen | soak) generated "$@" ;;
   example) example "${@:2}" ;;
+  watch) watch "${@:2}" ;;
+  cycles) cycles "${@:2}" ;;
   steps) steps "${@:2}" ;;
   draw) draw "${@:2}" ;;
   prove)

@@ -3,7 +3,7 @@
 # runs/NAME.steps stands in what it shows of runs/NAME.heap, by the list of that script's second line: at which step of which actor
 # something happens. The drawings of runs in
 # docs/pictures are what `goheap.sh draw` makes of scripts of examples/, by their lists, and pacing.svg there what `draw --pacing` makes of
-# runs/pacing.heap. With a word --write the drawings are written anew.
+# runs/pacing.heap. What docs/SCRIPTS.md has of a run that is broken off is what goheap.sh says of it. With a word --write the drawings are written anew.
 # GOHEAP_STEPS names another program to run than goheap.sh's.
 set -u
 cd "$(dirname "$0")/.." || exit 1
@@ -33,6 +33,19 @@ is_told() {
 floating=examples/floating.heap
 is_told 'tools/steps.sh examples/first.heap' <(steps examples/first.heap '0@1,2*3')
 is_told "tools/steps.sh $floating" <(steps "$floating" "$(list_of "$floating")" | grep -E 'acts a 2|cycle [12] is|page 0:' | head -n 9)
+
+# What each actor is said to wait for when a run is broken off.
+waits() {
+  echo 'turns 300'
+  sed -n "s/^  say 'the run is not over/goheap.sh: the run is not over/p" tools/hints.sh | sed "s/'$//"
+  (
+    # shellcheck source=tools/steps_program.sh
+    . tools/steps_program.sh
+    "$steps" --waits --budget 300 <examples/first.heap
+  ) |
+    awk -f tools/waits.awk examples/first.heap -
+}
+is_told './goheap.sh replay --budget 300' <(waits)
 
 # What is shown, without the numbers of turns, and each thing that happens in a line of its own.
 happens() {

@@ -44,13 +44,51 @@ draw() {
   if [ "$status" -ne 0 ]; then
     cat "$room/told" >&2
     tell_end ${how:+"$how"} ${list:+"$list"}
-    if [ "$status" -eq 8 ]; then say 'a run of more than 10000000 turns is not drawn'; fi
+    if [ "$status" -eq 8 ]; then say 'a run of more than 10000000 turns is not drawn: ./goheap.sh watch thins it'; fi
     exit "$status"
   fi
   events=$(grep -c '^[0-9]* [a-z]* [0-9]* step' "$room/told")
   if [ "$picture" = draw ] && [ "$events" -gt 2000 ]; then
-    fail 1 "the run has $events events, and draw makes a row of each, up to 2000"
+    fail 1 "the run has $events events, and draw makes a row of each, up to 2000: ./goheap.sh watch < file > run.html shows longer runs"
   fi
   attend awk -f "$here/tools/$picture.awk" <(script) "$room/told"
+  exit "$status"
+}
+
+# Runs goheap_steps with the words of replay, and hands the trace to a program of awk, after the script. What that makes is written once it is whole.
+shown() {
+  local telling stepped=()
+  as_steps "${@:2}"
+  mkfifo "$room/trace" || fail 1 'no pipe can be made'
+  "$program" --trace "${stepped[@]}" <&0 >"$room/trace" &
+  telling=$!
+  script >"$room/script"
+  LC_ALL=C awk -v template="$here/tools/watch.html" -f "$here/tools/$1.awk" - "$room/trace" <"$room/script" >"$room/shown" &
+  children+=("$telling" "$!")
+  await "$!"
+  wait "$telling"
+  status=$?
+  cat "$room/shown"
+}
+
+cycles() {
+  check_words cycles "$@"
+  show cycles "$@"
+}
+
+watch() {
+  check_words watch "$@"
+  show watch "$@"
+}
+
+# The run is shown by this program of awk. Where its turns were taken before its end, what there was of it is shown.
+show() {
+  keep_text
+  [ -n "$room" ] || fail 1 'no temporary folder can be made'
+  choose_program goheap_steps
+  tells="each $1 goes on"
+  shown "$@"
+  if [ "$status" -eq 8 ]; then say 'the run is not over: it is shown up to there, and a --budget of up to 1000000000 turns lets it go on'; fi
+  tell_end --trace
   exit "$status"
 }

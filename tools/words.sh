@@ -97,3 +97,25 @@ check_generated() {
     case $seen in *" $option "*) ;; *) refuse "$1 takes --seed n and --size n, and $option is not there" ;; esac
   done
 }
+
+# The words of `replay` as goheap_steps takes them after --trace or --waits, in `stepped`.
+as_steps() {
+  local option value seed='' budget=50000000 list=''
+  while [ $# -gt 0 ]; do
+    option=${1%%=*} value=${1#*=}
+    case $1 in
+      --seed | --budget | --list)
+        value=${2-}
+        shift
+        ;;
+    esac
+    case $option in
+      --seed) seed=$value ;;
+      --budget) budget=$value ;;
+      --list) list=$value ;;
+    esac
+    shift
+  done
+  # shellcheck disable=SC2034
+  stepped=(${seed:+--seed "$seed"} --budget "$budget" ${list:+"$list"})
+}

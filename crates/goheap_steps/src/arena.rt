@@ -197,7 +197,7 @@ fn pages(alloc: Global, first: u32, many: u32) -> Result<String, AllocError> {
 }
 
 /// A size class.
-fn class(alloc: Global, class: SizeClass) -> Result<String, AllocError> {
+pub fn class(alloc: Global, class: SizeClass) -> Result<String, AllocError> {
     match class {
         SizeClass::Small(class) => format!(in alloc; "class {}", class.number()),
         SizeClass::Large => format!(in alloc; "large"),
@@ -205,7 +205,7 @@ fn class(alloc: Global, class: SizeClass) -> Result<String, AllocError> {
 }
 
 /// The slots of a span of this class.
-fn slots(class: SizeClass) -> u32 {
+pub fn slots(class: SizeClass) -> u32 {
     match class {
         SizeClass::Small(class) => class.slots(),
         SizeClass::Large => 1,

@@ -23,24 +23,32 @@
 //! 4611 heap 5760 trigger never phase mark
 //! ```
 //!
+//! `goheap_steps --trace [--seed n] [--budget n] [list]` runs a script as `goheap replay` does with these, and tells all that happens, in
+//! the lines that docs/TRACE.md has. With `--waits` it tells how each actor stands once the budget's turns are taken.
+//!
 //! It shows where the numbers of a list come from, what a cycle keeps and frees, and what paces cycles. It is a tool beside `goheap`, over public calls of
 //! `gh_world`: that it stops at no fault is proved, and what it writes is tested, by its `stdin` and `stdout`.
 #![tactic(auto)]
 
 mod arena;
+mod now;
 mod order;
 mod pacing;
+mod seen;
 mod shades;
+mod stands;
 mod stop;
+mod trace;
 mod turns;
 
 use crate::pacing::tell_pacing;
 use crate::stop::Stop;
-use crate::turns::tell_turns;
+use crate::trace::{tell_trace, tell_waits};
+use crate::turns::{MOST_TURNS, tell_turns};
 use gh_io::{Failed, Sink, Source, StdSink, StdSource, read_up_to, write_all};
 use gh_lines::LineBuf;
-use gh_replay::{Turn, parse_list};
-use gh_script::{MOST_BYTES, ParseError, ScriptFault, parse};
+use gh_replay::{Schedule, Turn, parse_list};
+use gh_script::{MOST_BYTES, ParseError, Script, ScriptFault, parse};
 use std::alloc::Global;
 use std::env;
 use std::process::ExitCode;
@@ -65,9 +73,19 @@ fn main(rt: HostRuntime) -> ExitCode {
 enum Subject {
     Turns,
     Pacing,
+    Trace,
+    Waits,
 }
 
-// The call with the words of the command line: the program's name, what is told, and a list or none.
+// What is told of which run.
+#[derive(Drop)]
+struct Asked {
+    subject: Subject,
+    schedule: Schedule,
+    budget: u64,
+}
+
+// The call with the words of the command line: the program's name, what is told, and a list or none, or the words of `replay`.
 fn called<R: Env + AllocGlobal, S: Source, K: Sink>(
     rt: &R,
     src: &mut S,
@@ -77,15 +95,60 @@ fn called<R: Env + AllocGlobal, S: Source, K: Sink>(
         return Err(Stop::BadWords);
     };
     let words = args.collect::<Vec<String>>(rt.alloc())?;
-    let (subject, behind) = match words.get(1) {
-        Some(word) if word.as_str() == "--pacing" => (Subject::Pacing, 2),
-        _ => (Subject::Turns, 1),
-    };
-    let list = listed(rt.alloc(), &words, behind)?;
-    run(rt.alloc(), subject, list, src, out)
+    let asked = read_words(rt.alloc(), &words)?;
+    run(rt.alloc(), asked, src, out)
 }
 
-// The list that stands behind so many words, as the last one.
+// What the words ask for. The number of turns is the most that is told of without a budget.
+fn read_words(alloc: Global, words: &[String]) -> Result<Asked, Stop> {
+    let subject = match word_at(words, 1) {
+        "--trace" => Subject::Trace,
+        "--waits" => Subject::Waits,
+        "--pacing" => Subject::Pacing,
+        _ => Subject::Turns,
+    };
+    let mut at = if subject == Subject::Turns {
+        1usize
+    } else {
+        2usize
+    };
+    let mut seed = None;
+    let mut budget = u64::from(MOST_TURNS);
+    if subject == Subject::Trace || subject == Subject::Waits {
+        if word_at(words, at) == "--seed" {
+            seed = Some(number(words, at + 1)?);
+            at += 2;
+        }
+        if word_at(words, at) == "--budget" {
+            budget = number(words, at + 1)?;
+            at += 2;
+        }
+    }
+    let list = listed(alloc, words, at)?;
+    Ok(Asked {
+        subject,
+        schedule: Schedule { list, seed },
+        budget,
+    })
+}
+
+// The word at this place, or an empty one.
+fn word_at(words: &[String], at: usize) -> &str {
+    match words.get(at) {
+        Some(word) => word.as_str(),
+        None => "",
+    }
+}
+
+// The number that the word at this place spells.
+fn number(words: &[String], at: usize) -> Result<u64, Stop> {
+    match word_at(words, at).parse::<u64>() {
+        Ok(number) => Ok(number),
+        Err(_) => Err(Stop::BadWords),
+    }
+}
+
+// The list that stands after so many words, as the last one, or an empty one.
 fn listed(alloc: Global, words: &[String], behind: usize) -> Result<Vec<Turn>, Stop> {
     if words.len().saturating_sub(behind) > 1 {
         return Err(Stop::BadWords);
@@ -102,8 +165,7 @@ fn listed(alloc: Global, words: &[String], behind: usize) -> Result<Vec<Turn>, S
 // Reads the script, and tells this of its run.
 fn run<S: Source, K: Sink>(
     alloc: Global,
-    subject: Subject,
-    list: Vec<Turn>,
+    asked: Asked,
     src: &mut S,
     out: &mut K,
 ) -> Result<(), Stop> {
@@ -111,12 +173,23 @@ fn run<S: Source, K: Sink>(
         return Err(Stop::ReadFault);
     };
     match parse(alloc, &text) {
-        Ok(script) => match subject {
-            Subject::Turns => tell_turns(alloc, &script, list, out),
-            Subject::Pacing => tell_pacing(alloc, &script, list, out),
-        },
+        Ok(script) => tell(alloc, &script, asked, out),
         Err(ParseError::Script(fault)) => refuse(fault, out),
         Err(ParseError::NoMemory) => Err(Stop::NoMemory),
+    }
+}
+
+fn tell<K: Sink>(alloc: Global, script: &Script, asked: Asked, out: &mut K) -> Result<(), Stop> {
+    let Asked {
+        subject,
+        schedule,
+        budget,
+    } = asked;
+    match subject {
+        Subject::Turns => tell_turns(alloc, script, schedule, out),
+        Subject::Pacing => tell_pacing(alloc, script, schedule, out),
+        Subject::Trace => tell_trace(alloc, script, schedule, budget, out),
+        Subject::Waits => tell_waits(alloc, script, schedule, budget, out),
     }
 }
 

@@ -8,7 +8,7 @@ use crate::turns::{MOST_TURNS, end};
 use gh_base::{Cell, Phase, PhaseWord};
 use gh_io::{Sink, write_all};
 use gh_pacer::NEVER;
-use gh_replay::Turn;
+use gh_replay::Schedule;
 use gh_script::Script;
 use gh_world::World;
 use std::alloc::Global;
@@ -38,11 +38,11 @@ impl Pace {
 pub fn tell_pacing<K: Sink>(
     alloc: Global,
     script: &Script,
-    list: Vec<Turn>,
+    schedule: Schedule,
     out: &mut K,
 ) -> Result<(), Stop> {
     let mut world = World::new(alloc, script)?;
-    let mut order = Order::new(list);
+    let mut order = Order::new(schedule);
     let mut told = Pace::of(&world);
     for turn in 0..MOST_TURNS {
         let actor = match order.next(&world) {

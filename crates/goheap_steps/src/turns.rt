@@ -10,7 +10,7 @@ use crate::shades::Marks;
 use crate::stop::Stop;
 use gh_base::{Answer, Cell, Fault, Name};
 use gh_io::{Sink, write_all};
-use gh_replay::Turn;
+use gh_replay::Schedule;
 use gh_script::Script;
 use gh_world::{Event, World};
 use std::alloc::{AllocError, Global};
@@ -23,11 +23,11 @@ pub const MOST_TURNS: u32 = 10_000_000;
 pub fn tell_turns<K: Sink>(
     alloc: Global,
     script: &Script,
-    list: Vec<Turn>,
+    schedule: Schedule,
     out: &mut K,
 ) -> Result<(), Stop> {
     let mut world = World::new(alloc, script)?;
-    let mut order = Order::new(list);
+    let mut order = Order::new(schedule);
     let mut marks = Marks::new(alloc, world.layout())?;
     let mut steps = [0u32; 256];
     for turn in 0..MOST_TURNS {
@@ -164,7 +164,7 @@ fn said(alloc: Global, script: &Script, event: Event) -> Result<String, AllocErr
 }
 
 /// What a statement is told.
-fn answered(alloc: Global, script: &Script, answer: Answer) -> Result<String, AllocError> {
+pub fn answered(alloc: Global, script: &Script, answer: Answer) -> Result<String, AllocError> {
     match answer {
         Answer::Done => format!(in alloc; "done"),
         Answer::Nil => format!(in alloc; "nil"),
